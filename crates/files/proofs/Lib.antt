@@ -1,0 +1,5 @@
+pub mod Scans
+pub mod Obeying
+pub mod Lasts
+pub mod Stepping
+pub mod Blocks

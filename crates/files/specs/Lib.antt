@@ -1,0 +1,6 @@
+pub mod Formats
+pub mod Verdict
+pub mod Rules
+pub mod Meaning
+pub mod Changes
+pub mod Theorems
