@@ -3,3 +3,4 @@ pub mod Obeying
 pub mod Lasts
 pub mod Stepping
 pub mod Blocks
+pub mod Chips

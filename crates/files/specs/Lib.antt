@@ -3,4 +3,5 @@ pub mod Verdict
 pub mod Rules
 pub mod Meaning
 pub mod Changes
+pub mod Entries
 pub mod Theorems

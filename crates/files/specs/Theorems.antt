@@ -4,7 +4,8 @@ use mathlib.Core.Bool.{true}
 use mathlib.Core.List.{List}
 use mathlib.Core.Logic.{_↔_}
 use Prim.Native.Nat.{ℕ, _<_, _≤_}
-use Rattle.std.specs.declared.option.Option.the-variants.{None}
+use Rattle.std.specs.declared.option.Option.the-variants.{Some, None}
+use Rattle.faults.specs.declared.fault.Fault.{Fault}
 use Rattle.files.specs.declared.format.Format.{Format}
 use Rattle.files.specs.declared.format.Format.the-variants.{Ranges}
 use Rattle.files.specs.Formats.{first-of, last-of}
@@ -29,3 +30,14 @@ Last-is-told = (k : Format) (bs : List ℕ) (a n i : ℕ) → (last-at (first-of
 -- some range from first to last has the address
 abbrev pub Covered-is-inside : Type 0
 Covered-is-inside = (bs : List ℕ) (a n : ℕ) → (covered bs a n ≡ true) ↔ ((i : ℕ) × (1 ≤ i) × (i ≤ n) × (first-of Ranges bs i ≤ a) × (a ≤ last-of bs i))
+
+-- the bytes are handed back as they were, and are a map file
+pub record Accepted (k : Format) (bs back : List ℕ) : Type 0 where
+  pub same : back ≡ bs
+  pub faultless : fault k back ≡ None
+  pub obeys : Obeys k back
+
+-- the first fault, in bytes that break a rule
+pub record Refused (k : Format) (bs : List ℕ) (f : Fault) : Type 0 where
+  pub first : fault k bs ≡ Some f
+  pub broken : Obeys k bs → ⊥

@@ -1,6 +1,6 @@
 -- The first fault of bytes that are read in a format.
 use mathlib.Core.Bool.{Bool, true, false, cond, _&&_, _||_, not}
-use mathlib.Core.List.{List}
+use mathlib.Core.List.{List, [], _∷_}
 use Prim.Native.Nat.{ℕ, zero, suc, _+_, _-_, _*_, _^_}
 use lib.Dec.{eqb, ltb, leb}
 use lib.ListN.{length, getD}
@@ -8,7 +8,7 @@ use Rattle.std.specs.declared.option.Option.{Option}
 use Rattle.std.specs.declared.option.Option.the-variants.{Some, None}
 use Rattle.faults.specs.declared.fault.Fault.{Fault}
 use Rattle.faults.specs.declared.fault.Ground.the-variants as ground
-use Rattle.faults.specs.Refusals.{at, refuse-if, or-else}
+use Rattle.faults.specs.Refusals.{at, refuse-if, or-else, is-none}
 use Rattle.files.specs.declared.format.Format.{Format}
 use Rattle.files.specs.declared.format.Format.the-variants.{Bits, Settings, Ranges}
 use Rattle.files.specs.Formats.{mark-of, pins-at, count-at, header-size, double, pins-of, count-of, full-length, first-of, last-of, code-of, code-limit}
@@ -67,3 +67,13 @@ entries-fault k bs (suc n) = or-else (entries-fault k bs n) (entry-fault k bs n)
 
 abbrev pub fault : Format → List ℕ → Option Fault
 fault k bs = or-else (header-fault k bs) (entries-fault k bs (count-of k bs + 1))
+
+-- the smallest map file: one pin, end 0 at both addresses
+abbrev pub blank : Format → List ℕ
+blank Bits = 0x53 ∷ 0x57 ∷ 0x4C ∷ 0 ∷ 1 ∷ 0 ∷ 1 ∷ 0 ∷ 0 ∷ 0 ∷ []
+blank Settings = 0x53 ∷ 0x57 ∷ 0x4C ∷ 0 ∷ 1 ∷ 1 ∷ 1 ∷ 0 ∷ 0 ∷ 0 ∷ []
+blank Ranges = 0x52 ∷ 0x4E ∷ 0x47 ∷ 0 ∷ 1 ∷ 1 ∷ 0 ∷ 0 ∷ []
+
+-- the bytes if they have no fault, else the smallest map file
+abbrev pub accepted : Format → List ℕ → List ℕ
+accepted k bs = cond (is-none (fault k bs)) bs (blank k)

@@ -141,7 +141,7 @@ fn check_entry(bytes: &[u8], format: Format, i: usize) -> Result<(), Fault>
 }
 
 // Whether the bytes are a map file of the format, and if not, the first fault.
-pub fn check_file(bytes: &[u8], format: Format) -> Result<(), Fault>
+pub(crate) fn check_file(bytes: &[u8], format: Format) -> Result<(), Fault>
     ensures { λ r. ⌜ Cases r (λ _. fault format (now (bytes .entry)) ≡ None) (λ f. fault format (now (bytes .entry)) ≡ Some f) ⌝ }
 {
     check_header(bytes, format)?;
