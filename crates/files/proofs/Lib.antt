@@ -1,6 +1,4 @@
 pub mod Scans
 pub mod Obeying
 pub mod Lasts
-pub mod Stepping
-pub mod Blocks
-pub mod Chips
+pub mod Covers

@@ -1,11 +1,10 @@
 -- The three formats of map files, and their fields.
-use mathlib.Core.Path.{_≡_}
 use mathlib.Core.Bool.{Bool, true, false, cond}
 use mathlib.Core.List.{List}
-use Prim.Native.Nat.{ℕ, _+_, _-_, _*_, _/_, _%_, _≤_}
+use Prim.Native.Nat.{ℕ, _+_, _-_, _*_, _/_, _%_}
 use lib.Chars.{codes}
-use lib.Dec.{eqb, ltb}
-use lib.ListN.{length, getD}
+use lib.Dec.{eqb}
+use lib.ListN.{getD}
 use Rattle.files.specs.declared.format.Format.{Format}
 use Rattle.files.specs.declared.format.Format.the-variants.{Bits, Settings, Ranges}
 
@@ -56,10 +55,6 @@ full-length k bs = header-size k + count-of k bs * entry-size k
 abbrev pub entry-at : Format → ℕ → ℕ
 entry-at k i = header-size k + (i - 1) * entry-size k
 
--- the bytes reach to the end of entry i
-abbrev pub Has : Format → List ℕ → ℕ → Type 0
-Has k bs i = header-size k + i * entry-size k ≤ length bs
-
 -- the address of a switch, or the first address of a range; entry 0, the first end, counts as standing at 0
 abbrev pub first-of : Format → List ℕ → ℕ → ℕ
 first-of k bs i = cond (eqb i 0) 0 (triple bs (entry-at k i))
@@ -73,12 +68,6 @@ abbrev pub code-of : Format → List ℕ → ℕ → ℕ
 code-of Bits bs i = (getD bs 7 0 + i) % 2
 code-of Settings bs i = cond (eqb i 0) (getD bs 7 0) (getD bs (entry-at Settings i + 3) 0)
 code-of Ranges bs i = i % 2
-
--- the code after i changes stands in the bytes
-pub record Readable (k : Format) (bs : List ℕ) (i : ℕ) : Type 0 where
-  pub header : header-size k ≤ length bs
-  pub entry : k ≡ Settings → Has k bs i
-  pub few : i ≤ 2048
 
 -- the codes of a format's end kind are those below this number
 abbrev pub code-limit : Format → ℕ

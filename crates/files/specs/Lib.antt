@@ -2,6 +2,4 @@ pub mod Formats
 pub mod Verdict
 pub mod Rules
 pub mod Meaning
-pub mod Changes
-pub mod Entries
 pub mod Theorems

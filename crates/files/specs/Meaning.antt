@@ -1,13 +1,8 @@
 -- What an accepted map file means: its pins, and a code for each address.
-use mathlib.Core.Path.{_≡_}
 use mathlib.Core.Bool.{Bool, true, false, cond, _&&_, _||_}
 use mathlib.Core.List.{List}
-use Prim.Native.Nat.{ℕ, zero, suc, _^_}
-use lib.Dec.{eqb, ltb, leb}
-use Rattle.std.specs.declared.option.Option.{Option}
-use Rattle.std.specs.declared.option.Option.the-variants.{Some, None}
-use Rattle.ends.specs.declared.setting.Setting.{Setting}
-use Rattle.ends.specs.Codes.{setting-at}
+use Prim.Native.Nat.{ℕ, zero, suc}
+use lib.Dec.{leb}
 use Rattle.files.specs.declared.format.Format.{Format}
 use Rattle.files.specs.declared.format.Format.the-variants.{Bits, Settings, Ranges}
 use Rattle.files.specs.Formats.{count-of, first-of, last-of, code-of}
@@ -31,17 +26,3 @@ abbrev pub meaning : Format → List ℕ → ℕ → ℕ
 meaning Bits bs a = switched Bits bs a
 meaning Settings bs a = switched Settings bs a
 meaning Ranges bs a = cond (covered bs a (count-of Ranges bs)) 1 0
-
--- the same as ends
-abbrev pub bit-at : List ℕ → ℕ → Bool
-bit-at bs a = eqb (meaning Bits bs a) 1
-
-abbrev pub chip-at : List ℕ → ℕ → Setting
-chip-at bs a = setting-at (meaning Settings bs a)
-
-abbrev pub inside-at : List ℕ → ℕ → Bool
-inside-at bs a = covered bs a (count-of Ranges bs)
-
--- f of the addresses of n pins, and nothing of any other
-abbrev pub below-top : {E : Type 0} → ℕ → (ℕ → E) → ℕ → Option E
-below-top n f a = cond (ltb a (2 ^ n)) (Some (f a)) None

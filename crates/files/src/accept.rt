@@ -32,7 +32,7 @@ fn blank_file(format: Format) -> &'static [u8]
 }
 
 // Bytes that were not accepted are passed over for the smallest map file, so that a reader's bytes are always a map file.
-pub(crate) fn accepted_or_blank(bytes: &[u8], format: Format) -> &[u8]
+pub fn accepted_or_blank(bytes: &[u8], format: Format) -> &[u8]
     ensures value { λ r. ⌜ now r ≡ accepted format (now (bytes .entry)) ⌝ }
     ensures good { λ r. ⌜ fault format (now r) ≡ None ⌝ }
 {

@@ -1,13 +1,11 @@
-// The fields of a map file, each read where it stands.
+// The fields of a map file, each read where it stands; a byte past the end reads as 0.
 ghost use mathlib.Core.Path.{_≡_};
-ghost use Prim.Native.Nat.{ℕ, _+_, _-_, _*_, _^_, _<_, _≤_};
-ghost use lib.ListN.{length, getD};
-ghost use Rattle.files.specs.Formats.{mark-of, pins-at, count-at, header-size, entry-size, entry-at, double, triple, pins-of, count-of, Has, Readable, first-of, last-of, code-of, code-limit};
-ghost use Rattle.files.specs.declared.format.Format.the-variants.{Ranges};
+ghost use lib.ListN.{getD};
+ghost use Rattle.files.specs.Formats.{mark-of, pins-at, count-at, header-size, entry-size, double, triple, pins-of, count-of, first-of, last-of, code-of, code-limit};
 use crate::format::Format;
 
 impl Format {
-    pub(crate) fn mark(self) -> [u8; 3]
+    pub fn mark(self) -> [u8; 3]
         ensures { λ r. ⌜ r ≡ mark-of self ⌝ }
     {
         match self {
@@ -16,7 +14,7 @@ impl Format {
         }
     }
 
-    pub(crate) fn pins_offset(self) -> usize
+    pub fn pins_offset(self) -> usize
         ensures { λ r. ⌜ r ≡ pins-at self ⌝ }
     {
         match self {
@@ -25,7 +23,7 @@ impl Format {
         }
     }
 
-    pub(crate) fn count_offset(self) -> usize
+    pub fn count_offset(self) -> usize
         ensures { λ r. ⌜ r ≡ count-at self ⌝ }
     {
         match self {
@@ -34,7 +32,7 @@ impl Format {
         }
     }
 
-    pub(crate) fn header_len(self) -> usize
+    pub fn header_len(self) -> usize
         ensures { λ r. ⌜ r ≡ header-size self ⌝ }
     {
         match self {
@@ -43,7 +41,7 @@ impl Format {
         }
     }
 
-    pub(crate) fn entry_len(self) -> usize
+    pub fn entry_len(self) -> usize
         ensures { λ r. ⌜ r ≡ entry-size self ⌝ }
     {
         match self {
@@ -53,7 +51,8 @@ impl Format {
         }
     }
 
-    pub(crate) fn codes(self) -> u8
+    // The codes of the ends are those below this number.
+    pub fn codes(self) -> u8
         ensures { λ r. ⌜ r ≡ code-limit self ⌝ }
     {
         match self {
@@ -63,65 +62,68 @@ impl Format {
     }
 }
 
-pub(crate) fn be16(bytes: &[u8], at: usize) -> usize
-    requires { ⌜ at + 2 ≤ length (now bytes) ⌝ }
+pub fn byte_at(bytes: &[u8], at: usize) -> u8
+    ensures { λ r. ⌜ r ≡ getD (now (bytes .entry)) at 0 ⌝ }
+{
+    if at < bytes.len() { bytes[at] } else { 0 }
+}
+
+// Two bytes as a number, the highest first.
+pub fn be16(bytes: &[u8], at: u32) -> u16
     ensures { λ r. ⌜ r ≡ double (now (bytes .entry)) at ⌝ }
 {
-    bytes[at] as usize * 256 + bytes[at + 1] as usize
+    let at = at as usize;
+    byte_at(bytes, at) as u16 * 256 + byte_at(bytes, at + 1) as u16
 }
 
-pub(crate) fn be24(bytes: &[u8], at: usize) -> u32
-    requires { ⌜ at + 3 ≤ length (now bytes) ⌝ }
+// Three bytes as a number, the highest first.
+pub fn be24(bytes: &[u8], at: u32) -> u32
     ensures { λ r. ⌜ r ≡ triple (now (bytes .entry)) at ⌝ }
 {
-    bytes[at] as u32 * 65536 + bytes[at + 1] as u32 * 256 + bytes[at + 2] as u32
+    let at = at as usize;
+    byte_at(bytes, at) as u32 * 65536 + byte_at(bytes, at + 1) as u32 * 256 + byte_at(bytes, at + 2) as u32
 }
 
-pub(crate) fn pin_count(bytes: &[u8], format: Format) -> u8
-    requires { ⌜ header-size format ≤ length (now bytes) ⌝ }
+pub fn pin_count(bytes: &[u8], format: Format) -> u8
     ensures { λ r. ⌜ r ≡ pins-of format (now (bytes .entry)) ⌝ }
 {
-    bytes[format.pins_offset()]
+    byte_at(bytes, format.pins_offset())
 }
 
-pub(crate) fn entry_count(bytes: &[u8], format: Format) -> usize
-    requires { ⌜ header-size format ≤ length (now bytes) ⌝ }
+pub fn entry_count(bytes: &[u8], format: Format) -> u16
     ensures { λ r. ⌜ r ≡ count-of format (now (bytes .entry)) ⌝ }
 {
-    be16(bytes, format.count_offset())
+    be16(bytes, format.count_offset() as u32)
 }
 
 // The address of a switch, or the first address of a range. The first end, entry 0, stands at address 0.
-pub(crate) fn first_address(bytes: &[u8], format: Format, entry: usize) -> u32
-    requires { ⌜ Has format (now bytes) entry ⌝ ∗ ⌜ entry ≤ 1024 ⌝ }
+pub fn first_address(bytes: &[u8], format: Format, entry: u16) -> u32
     ensures { λ r. ⌜ r ≡ first-of format (now (bytes .entry)) entry ⌝ }
 {
     if entry == 0 {
         return 0;
     }
-    be24(bytes, format.header_len() + (entry - 1) * format.entry_len())
+    be24(bytes, format.header_len() as u32 + (entry as u32 - 1) * format.entry_len() as u32)
 }
 
-// The last address of a range.
-pub(crate) fn last_address(bytes: &[u8], range: usize) -> u32
-    requires { ⌜ Has Ranges (now bytes) range ⌝ ∗ ⌜ 1 ≤ range ⌝ ∗ ⌜ range ≤ 1024 ⌝ }
+// The last address of a range, 1 and up.
+pub fn last_address(bytes: &[u8], range: u16) -> u32
     ensures { λ r. ⌜ r ≡ last-of (now (bytes .entry)) range ⌝ }
 {
-    be24(bytes, 8 + (range - 1) * 6 + 3)
+    be24(bytes, 8 + (range as u32).saturating_sub(1) * 6 + 3)
 }
 
 // The code after some changes of the end.
-pub(crate) fn code_after(bytes: &[u8], format: Format, changes: usize) -> u8
-    requires { ⌜ Readable format (now bytes) changes ⌝ }
+pub fn code_after(bytes: &[u8], format: Format, changes: u16) -> u8
     ensures { λ r. ⌜ r ≡ code-of format (now (bytes .entry)) changes ⌝ }
 {
     match format {
-        Format::Bits => ((bytes[7] as usize + changes) % 2) as u8,
+        Format::Bits => ((byte_at(bytes, 7) as u32 + changes as u32) % 2) as u8,
         Format::Settings => {
             if changes == 0 {
-                bytes[7]
+                byte_at(bytes, 7)
             } else {
-                bytes[10 + (changes - 1) * 4 + 3]
+                byte_at(bytes, 10 + (changes as usize - 1) * 4 + 3)
             }
         }
         Format::Ranges => (changes % 2) as u8,

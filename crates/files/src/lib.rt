@@ -1,14 +1,6 @@
-// Map files, judged and read inside the caller's bytes.
+// Map files in three formats: their fields, the first fault of bytes that are read as one, and what accepted bytes mean.
 pub mod format;
-mod fields;
+pub mod fields;
 mod judge;
 pub mod accept;
-mod lookup;
-pub mod entry;
-pub mod bit_file;
-pub mod bits;
-pub mod setting_file;
-pub mod settings;
-pub mod range_file;
-pub mod ranges;
 pub mod laws;
