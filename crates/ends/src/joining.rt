@@ -70,7 +70,11 @@ pub impl Joining for Overlay as OverlayJoining {
         if left.chip != 0 && right.chip == 0 {
             return left;
         }
-        if left.waits < right.waits { right } else { left }
+        if left.waits < right.waits {
+            right
+        } else {
+            left
+        }
     }
 }
 

@@ -1,6 +1,8 @@
 // Codes of addresses and blocks, looked up in accepted bytes of any format.
 ghost use mathlib.Core.Path.{_≡_};
-ghost use Prim.Native.Nat.{ℕ, _+_, _-_, _*_, _^_, _<_, _≤_};
+ghost use mathlib.Core.Bool.{_&&_};
+ghost use Prim.Native.Nat.{_+_, _-_, _*_, _^_, _≤_};
+ghost use lib.Dec.{leb, ltb};
 ghost use Rattle.sources.specs.Blocks.{Says, Inside};
 ghost use Rattle.files.specs.Formats.{pins-of};
 ghost use Rattle.files.specs.Rules.{Obeys};
@@ -12,6 +14,7 @@ use files::fields::first_address;
 use files::fields::last_address;
 use files::fields::pin_count;
 use files::format::Format;
+use sources::block::is_block;
 use sources::source::Answer;
 
 fn changes(bytes: &[u8], format: Format) -> u16
@@ -78,18 +81,26 @@ fn span(pins: u32, level: u32, block: u32) -> (u32, u32)
     (first, first + (size - 1))
 }
 
+// Whether the next change after `i` stands at or below an address.
+fn changes_by(bytes: &[u8], format: Format, i: u16, address: u32) -> bool
+    requires { ⌜ Obeys format (now bytes) ⌝ }
+    ensures { λ r. ⌜ r ≡ (ltb i (change-count format (now (bytes .entry))) && leb (change-at format (now (bytes .entry)) (i + 1)) address) ⌝ }
+{
+    i < changes(bytes, format) && change(bytes, format, i + 1) <= address
+}
+
 // What is true of a block, in codes.
 pub(crate) fn ask_codes(bytes: &[u8], format: Format, level: u32, block: u32) -> Answer<u8>
     requires { ⌜ Obeys format (now bytes) ⌝ }
     ensures { λ r. ⌜ Says (pins-of format (now (bytes .entry))) (meaning format (now (bytes .entry))) level block r ⌝ }
 {
     let pins = pin_count(bytes, format) as u32;
-    if level > pins || block >= 1 << level {
+    if !is_block(pins, level, block) {
         return Answer::Outside;
     }
     let (first, last) = span(pins, level, block);
     let i = last_change(bytes, format, first);
-    if i < changes(bytes, format) && change(bytes, format, i + 1) <= last {
+    if changes_by(bytes, format, i, last) {
         Answer::Mixed
     } else {
         Answer::All(code_after(bytes, format, i))

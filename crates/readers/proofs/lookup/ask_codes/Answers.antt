@@ -1,27 +1,36 @@
-use Prim.Native.Nat.{ℕ, _*_, _%_, _^_, _<_, _≤_}
+use mathlib.Core.Path.{_≡_, sym, _∙_}
+use mathlib.Core.Bool.{true, false, _&&_}
+use Prim.Native.Nat.{ℕ, _+_, _<_, _≤_}
+use lib.Dec.{leb, ltb}
+use Rattle.std.proofs.shelf.Ways.{tells}
+use Rattle.readers.specs.Changes.{change-at, change-count}
 use native.Mathlib.Omega.{arith}
-use Rattle.std.proofs.shelf.Bits.{one-shl}
-use Rattle.sources.specs.Blocks.{Inside}
 use Rattle.readers.proofs.Blocks.{block-uniform, block-differing}
-use Rattle.readers.proofs.lookup.ask_codes.Needs.{else-i-changes·by·then-i-changes·else-change-last, else-i-changes·by·else-i-changes}
 use Rattle.readers.proofs.lookup.ask_codes.Needs as need
 
--- the test of the block
-inside : (pins j p : ℕ) → pins ≤ 20 → j ≤ pins → p < 1 * 2 ^ j % 4294967296 → Inside pins j p
-inside pins j p few l b = record { level = l; block = omega (arith, one-shl j 32 (omega arith)) }
+-- what the test of the next change tells
+by : (i n c a : ℕ) → (ltb i n && leb c a) ≡ true → (i < n) × (c ≤ a)
+by i n c a e = (grind (arith, tells), grind (arith, tells))
 
-pub returns-then-change-last : need.returns-then-change-last
-returns-then-change-last c =
-    block-differing (c .args .format) (c .args .bytes .now) (c .pre) (c .pin-count-pins .result) (c .args .level) (c .args .block) (c .span-first .result .0) (c .span-first .result .1) (c .last-change-i .result)
-    (c .pin-count-pins .ensures) (inside (c .pin-count-pins .result) (c .args .level) (c .args .block) (omega arith) (omega arith) (omega arith)) (c .span-first .ensures .0) (c .span-first .ensures .1) (c .last-change-i .ensures)
-    (omega arith) (omega arith)
+not-by : (i n c a : ℕ) → (ltb i n && leb c a) ≡ false → i < n → a < c
+not-by i n c a e l = grind (arith, tells)
 
-pub returns-else-i-changes : need.returns-else-i-changes
-returns-else-i-changes c =
-    block-uniform (c .args .format) (c .args .bytes .now) (c .pre) (c .pin-count-pins .result) (c .args .level) (c .args .block) (c .span-first .result .0) (c .span-first .result .1) (c .last-change-i .result)
-    (c .pin-count-pins .ensures) (inside (c .pin-count-pins .result) (c .args .level) (c .args .block) (omega arith) (omega arith) (omega arith)) (c .span-first .ensures .0) (c .span-first .ensures .1) (c .last-change-i .ensures)
+pub returns-then-changes-by : need.returns-then-changes-by
+returns-then-changes-by c =
+    let k = c .args .format in
+    let bs = c .args .bytes .now in
+    let i = c .last-change-i .result in
+    let more = by i (change-count k bs) (change-at k bs (i + 1)) (c .span-first .result .1) (sym (c .changes-by .ensures) ∙ c .if-changes-by .taken) in
+    block-differing k bs (c .pre) (c .pin-count-pins .result) (c .args .level) (c .args .block) (c .span-first .result .0) (c .span-first .result .1) i
+    (c .pin-count-pins .ensures) (c .is-block .ensures .0 (c .if-not-is-block .left)) (c .span-first .ensures .0) (c .span-first .ensures .1) (c .last-change-i .ensures)
+    (more .0) (more .1)
+
+pub returns-else-changes-by : need.returns-else-changes-by
+returns-else-changes-by c =
+    let k = c .args .format in
+    let bs = c .args .bytes .now in
+    let i = c .last-change-i .result in
+    block-uniform k bs (c .pre) (c .pin-count-pins .result) (c .args .level) (c .args .block) (c .span-first .result .0) (c .span-first .result .1) i
+    (c .pin-count-pins .ensures) (c .is-block .ensures .0 (c .if-not-is-block .left)) (c .span-first .ensures .0) (c .span-first .ensures .1) (c .last-change-i .ensures)
     (c .code-after .result) (c .code-after .ensures)
-    (λ m. elim (c .else-i-changes .came) [
-      else-i-changes·by·then-i-changes·else-change-last w ↦ omega (arith, w .if-change-last .left, w .change .ensures)
-    | else-i-changes·by·else-i-changes w ↦ absurd (omega (arith, w .if-i-changes .left))
-    ])
+    (not-by i (change-count k bs) (change-at k bs (i + 1)) (c .span-first .result .1) (sym (c .changes-by .ensures) ∙ c .if-changes-by .left))
