@@ -1,0 +1,2 @@
+// The growth of a diagram from a contracted tree.
+pub mod drawing;

@@ -1,0 +1,10 @@
+pub mod Naming
+pub mod Beginning
+pub mod Holdings
+pub mod Readings
+pub mod Reckonings
+pub mod Comparings
+pub mod Rebuilding
+pub mod Erasings
+pub mod Growings
+pub mod Drawings

@@ -1,0 +1,6 @@
+pub mod Results
+pub mod Orders
+pub mod Plain
+pub mod Reaching
+pub mod Holding
+pub mod Settling

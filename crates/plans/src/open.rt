@@ -1,0 +1,7 @@
+use crate::header::Header;
+
+// A plan that can be drawn on.
+#[derive(Drop)]
+pub struct OpenPlan {
+    pub(crate) header: Header,
+}

@@ -1,0 +1,7 @@
+pub mod Indexes
+pub mod States
+pub mod Reads
+pub mod Lines
+pub mod Markings
+pub mod Probes
+pub mod Additions

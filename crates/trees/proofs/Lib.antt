@@ -1,0 +1,9 @@
+pub mod Differ
+pub mod Rows
+pub mod Order
+pub mod Fill
+pub mod Agree
+pub mod Walk
+pub mod Few
+pub mod Meaning
+pub mod Fixed

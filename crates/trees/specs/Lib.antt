@@ -1,0 +1,7 @@
+pub mod Mixed
+pub mod Pins
+pub mod Left
+pub mod Records
+pub mod Growth
+pub mod Walk
+pub mod Theorems
