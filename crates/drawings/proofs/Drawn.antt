@@ -121,6 +121,6 @@ drawn-root tree records order n nodes work lines marks index prepared nodes′ m
     let e : tree .pins ≡ n = built .pins in
     grown-root n nodes work lines marks index prepared nodes′ marks′ index′ r (view-of n order f)
     (λ st from.
-      subst (λ (k : ℕ). Outcome k 0 (view k f order all-low) nodes marks nodes′ marks′ index′ r) e
-      (draws f all-low (subst (λ (k : ℕ). Built k f records tree) (sym e) built) (long ∙ sym e) (subst (λ (k : ℕ). Order k order) (sym e) names)
-        (subst (λ (k : ℕ). State k nodes marks index) (sym e) st) (omega arith) (none-fixed (tree .pins) order all-low (subst (λ (k : ℕ). Order k order) (sym e) names))))
+    subst (λ (k : ℕ). Outcome k 0 (view k f order all-low) nodes marks nodes′ marks′ index′ r) e
+    (draws f all-low (subst (λ (k : ℕ). Built k f records tree) (sym e) built) (long ∙ sym e) (subst (λ (k : ℕ). Order k order) (sym e) names)
+    (subst (λ (k : ℕ). State k nodes marks index) (sym e) st) (omega arith) (none-fixed (tree .pins) order all-low (subst (λ (k : ℕ). Order k order) (sym e) names))))

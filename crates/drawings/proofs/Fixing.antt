@@ -47,14 +47,14 @@ module _ (a k m : ℕ) where
   other-bit : (k ≡ m → ⊥) → 2 ^ k / 2 ^ m % 2 ≡ 0
   other-bit ne =
       elim (leb-tells m k) [
-        inl t ↦
-          let j = k - suc m in
-          let e : k ≡ (j + 1) + m = omega (arith, t .1, ne) in
-          let p : 2 ^ ((j + 1) + m) ≡ 2 ^ (j + 1) * 2 ^ m = pow-add 2 (j + 1) m in
-          let q : 2 ^ (j + 1) ≡ 2 ^ j * 2 ^ 1 = pow-add 2 j 1 in
-          let w : 2 ^ k / 2 ^ m ≡ 2 ^ (j + 1) = ap (λ x. 2 ^ x / 2 ^ m) e ∙ ap (λ x. x / 2 ^ m) p ∙ shl-shr (2 ^ (j + 1)) m in
-          omega (arith, w, q)
-      | inr t ↦ ap (λ x. x % 2) (div-eq-zero (2 ^ k) (2 ^ m) (pow-lt (t .1)))
+        | inl t ↦
+            let j = k - suc m in
+            let e : k ≡ (j + 1) + m = omega (arith, t .1, ne) in
+            let p : 2 ^ ((j + 1) + m) ≡ 2 ^ (j + 1) * 2 ^ m = pow-add 2 (j + 1) m in
+            let q : 2 ^ (j + 1) ≡ 2 ^ j * 2 ^ 1 = pow-add 2 j 1 in
+            let w : 2 ^ k / 2 ^ m ≡ 2 ^ (j + 1) = ap (λ x. 2 ^ x / 2 ^ m) e ∙ ap (λ x. x / 2 ^ m) p ∙ shl-shr (2 ^ (j + 1)) m in
+            omega (arith, w, q)
+        | inr t ↦ ap (λ x. x % 2) (div-eq-zero (2 ^ k) (2 ^ m) (pow-lt (t .1)))
       ]
     where
       div-eq-zero : (x y : ℕ) → x < y → x / y ≡ 0
@@ -82,8 +82,8 @@ module _ (n mask value p : ℕ) (ps : List ℕ) (s : Setting) (l : p < n) (once 
   left-still : (q : ℕ) → q < n → pin n (bitOr mask (bit-of n p)) q ≡ false → In q ps
   left-still q h m =
       elim (eqb-tells q p) [
-        inl t ↦ (let z : _≡_ {A = ℕ} 1 0 = ap (λ (b : Bool). cond b 1 0) (sym (pin-set n mask p l) ∙ ap (pin n (bitOr mask (bit-of n p))) (sym (t .1)) ∙ m) in absurd (omega arith))
-      | inr t ↦ other q (t .1) (f .left q h (sym (pin-kept n mask p l q h (t .1)) ∙ m))
+        | inl t ↦ (let z : _≡_ {A = ℕ} 1 0 = ap (λ (b : Bool). cond b 1 0) (sym (pin-set n mask p l) ∙ ap (pin n (bitOr mask (bit-of n p))) (sym (t .1)) ∙ m) in absurd (omega arith))
+        | inr t ↦ other q (t .1) (f .left q h (sym (pin-kept n mask p l q h (t .1)) ∙ m))
       ]
     where
       other : (q : ℕ) → (q ≡ p → ⊥) → In q (p ∷ ps) → In q ps
@@ -95,10 +95,10 @@ module _ (n mask value p : ℕ) (ps : List ℕ) (s : Setting) (l : p < n) (once 
     gone = left-gone;
     left = left-still;
     stands = λ q h m. elim (eqb-tells q p) [
-      inl t ↦ ap (put s p false) (t .1) ∙ put-same s p false ∙ sym (f .clear p l (inl refl)) ∙ ap (pin n value) (sym (t .1))
-    | inr t ↦ put-other s p false q (t .1) ∙ f .stands q h (was q h (t .1) m)
+      | inl t ↦ ap (put s p false) (t .1) ∙ put-same s p false ∙ sym (f .clear p l (inl refl)) ∙ ap (pin n value) (sym (t .1))
+      | inr t ↦ put-other s p false q (t .1) ∙ f .stands q h (was q h (t .1) m)
     ];
-    clear = λ q h i. f .clear q h (inr i)
+    clear = λ q h i. f .clear q h (inr i);
   }
 
   pub fixed-high : Fixed n (bitOr mask (bit-of n p)) (bitOr value (bit-of n p)) ps (put s p true)
@@ -106,10 +106,10 @@ module _ (n mask value p : ℕ) (ps : List ℕ) (s : Setting) (l : p < n) (once 
     gone = left-gone;
     left = left-still;
     stands = λ q h m. elim (eqb-tells q p) [
-      inl t ↦ ap (put s p true) (t .1) ∙ put-same s p true ∙ sym (pin-set n value p l) ∙ ap (pin n (bitOr value (bit-of n p))) (sym (t .1))
-    | inr t ↦ put-other s p true q (t .1) ∙ f .stands q h (was q h (t .1) m) ∙ sym (pin-kept n value p l q h (t .1))
+      | inl t ↦ ap (put s p true) (t .1) ∙ put-same s p true ∙ sym (pin-set n value p l) ∙ ap (pin n (bitOr value (bit-of n p))) (sym (t .1))
+      | inr t ↦ put-other s p true q (t .1) ∙ f .stands q h (was q h (t .1) m) ∙ sym (pin-kept n value p l q h (t .1))
     ];
-    clear = λ q h i. pin-kept n value p l q h (λ e. once .0 (subst (λ (x : ℕ). In x ps) e i)) ∙ f .clear q h (inr i)
+    clear = λ q h i. pin-kept n value p l q h (λ e. once .0 (subst (λ (x : ℕ). In x ps) e i)) ∙ f .clear q h (inr i);
   }
 
 -- no pin is fixed
@@ -118,7 +118,7 @@ none-fixed n order s o = record {
   gone = λ p l m i. never p m;
   left = λ p l m. order-has n order o p l;
   stands = λ p l m. absurd (never p m);
-  clear = λ p l i. zero-pin p
+  clear = λ p l i. zero-pin p;
 }
   where
     zero-pin : (p : ℕ) → pin n 0 p ≡ false

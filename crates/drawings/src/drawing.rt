@@ -53,10 +53,30 @@ pub fn draw_tree(
         return None;
     }
     let bit = pin_bit(pins, order[place as usize]);
-    let Some(low) = draw_tree(tree, records, order, nodes, marks, index, place + 1, mask | bit, value) else {
+    let Some(low) = draw_tree(
+        tree,
+        records,
+        order,
+        nodes,
+        marks,
+        index,
+        place + 1,
+        mask | bit,
+        value,
+    ) else {
         return None;
     };
-    let Some(high) = draw_tree(tree, records, order, nodes, marks, index, place + 1, mask | bit, value | bit) else {
+    let Some(high) = draw_tree(
+        tree,
+        records,
+        order,
+        nodes,
+        marks,
+        index,
+        place + 1,
+        mask | bit,
+        value | bit,
+    ) else {
         return None;
     };
     node_for(nodes, marks, index, pins as u8, place, low, high)

@@ -22,10 +22,10 @@ module _ (address : ℕ → ℕ) (start : address 0 ≡ 0) (a : ℕ) where
   last-above zero j h l = absurd (omega arith)
   last-above (suc n) j h l =
       elim (leb-tells (address (suc n)) a) [
-        inl t ↦ let e : last-at address a (suc n) ≡ suc n = ap (λ (b : Bool). cond b (suc n) (last-at address a n)) (t .0) in absurd (omega (arith, e, h, l))
-      | inr t ↦
-          let e : last-at address a (suc n) ≡ last-at address a n = ap (λ (b : Bool). cond b (suc n) (last-at address a n)) (t .0) in
-          elim (eqb-tells j (suc n)) [ inl s ↦ subst (λ (x : ℕ). a < address x) (sym (s .1)) (t .1) | inr s ↦ last-above n j (omega (arith, e, h)) (omega (arith, s .1, l)) ]
+        | inl t ↦ let e : last-at address a (suc n) ≡ suc n = ap (λ (b : Bool). cond b (suc n) (last-at address a n)) (t .0) in absurd (omega (arith, e, h, l))
+        | inr t ↦
+            let e : last-at address a (suc n) ≡ last-at address a n = ap (λ (b : Bool). cond b (suc n) (last-at address a n)) (t .0) in
+            elim (eqb-tells j (suc n)) [ inl s ↦ subst (λ (x : ℕ). a < address x) (sym (s .1)) (t .1) | inr s ↦ last-above n j (omega (arith, e, h)) (omega (arith, s .1, l)) ]
       ]
 
   pub last-told : (n : ℕ) → Last address a n (last-at address a n)
@@ -36,6 +36,6 @@ module _ (address : ℕ → ℕ) (start : address 0 ≡ 0) (a : ℕ) where
   told-last n i h =
       let l = last-told n in
       elim (leb-tells i (last-at address a n)) [
-        inl t ↦ elim (eqb-tells (last-at address a n) i) [ inl s ↦ s .1 | inr s ↦ absurd (omega (arith, h .next (last-at address a n) (omega (arith, s .1, t .1)) (l .there), l .low)) ]
-      | inr t ↦ absurd (omega (arith, l .next i (t .1) (h .there), h .low))
+        | inl t ↦ elim (eqb-tells (last-at address a n) i) [ inl s ↦ s .1 | inr s ↦ absurd (omega (arith, h .next (last-at address a n) (omega (arith, s .1, t .1)) (l .there), l .low)) ]
+        | inr t ↦ absurd (omega (arith, l .next i (t .1) (h .there), h .low))
       ]

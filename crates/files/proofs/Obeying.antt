@@ -93,7 +93,7 @@ module _ (k : Format) (bs : List ℕ) where
     some-pins = header-some e;
     few-pins = header-few e;
     few-entries = header-count e;
-    whole = header-whole e
+    whole = header-whole e;
   }
 
   unrefused : Laid-out k bs → header-fault k bs ≡ None
@@ -153,7 +153,7 @@ module _ (k : Format) (bs : List ℕ) (each : (i : ℕ) → i ≤ count-of k bs 
       below = below;
       rising = λ i h. subst (λ (x : ℕ). first-of k bs x < first-of k bs (i + 1)) (back-one i) (switch-rising k bs (i + 1) (next i h));
       coded = coded;
-      changing = λ i h. subst (λ (x : ℕ). code-of k bs x ≡ code-of k bs (i + 1) → ⊥) (back-one i) (switch-changing k bs (i + 1) (next i h))
+      changing = λ i h. subst (λ (x : ℕ). code-of k bs x ≡ code-of k bs (i + 1) → ⊥) (back-one i) (switch-changing k bs (i + 1) (next i h));
     }
       where
         below : (i : ℕ) → i ≤ count-of k bs → first-of k bs i < 2 ^ pins-of k bs
@@ -169,9 +169,9 @@ unswitched k bs same first o zero h = first
 unswitched k bs same first o (suc i) h =
     subst (λ (x : ℕ). entry-fault k bs x ≡ None) (add-one i)
     (later k bs i ∙ same (i + 1) ∙ switch-unrefused k bs (i + 1) (o .below (i + 1) (omega arith))
-      (subst (λ (x : ℕ). first-of k bs x < first-of k bs (i + 1)) (sym (one i)) (o .rising i (omega arith)))
-      (o .coded (i + 1) (omega arith))
-      (subst (λ (x : ℕ). code-of k bs x ≡ code-of k bs (i + 1) → ⊥) (sym (one i)) (o .changing i (omega arith))))
+    (subst (λ (x : ℕ). first-of k bs x < first-of k bs (i + 1)) (sym (one i)) (o .rising i (omega arith)))
+    (o .coded (i + 1) (omega arith))
+    (subst (λ (x : ℕ). code-of k bs x ≡ code-of k bs (i + 1) → ⊥) (sym (one i)) (o .changing i (omega arith))))
   where
     one : (j : ℕ) → j + 1 - 1 ≡ j
     one j = omega arith
@@ -180,7 +180,7 @@ ranges : (bs : List ℕ) → ((i : ℕ) → i ≤ count-of Ranges bs → entry-f
 ranges bs each = record {
   below = λ i l h. range-below bs i (here i l h);
   forward = λ i l h. range-forward bs i (here i l h);
-  apart = λ i l h. subst (λ (x : ℕ). last-of bs x + 2 ≤ first-of Ranges bs (i + 1)) (one i) (range-apart bs (i + 1) (omega arith) (here (i + 1) (omega arith) (omega arith)))
+  apart = λ i l h. subst (λ (x : ℕ). last-of bs x + 2 ≤ first-of Ranges bs (i + 1)) (one i) (range-apart bs (i + 1) (omega arith) (here (i + 1) (omega arith) (omega arith)));
 }
   where
     one : (j : ℕ) → j + 1 - 1 ≡ j
@@ -223,7 +223,7 @@ obeys k bs e =
     let n = count-of k bs + 1 in
     record {
       layout = laid-out k bs (or-left (header-fault k bs) (entries-fault k bs n) e);
-      entries = entries-obey k bs (λ i h. entries-none k bs n (or-right (header-fault k bs) (entries-fault k bs n) e) i (omega arith))
+      entries = entries-obey k bs (λ i h. entries-none k bs n (or-right (header-fault k bs) (entries-fault k bs n) e) i (omega arith));
     }
 
 pub obeyed : (k : Format) (bs : List ℕ) → Obeys k bs → fault k bs ≡ None

@@ -38,8 +38,8 @@ module _ (k : Format) (bs : List ℕ) where
   entries-stop i f p q zero h = absurd (omega arith)
   entries-stop i f p q (suc j) h =
       elim (eqb-tells i j) [
-        inl t ↦ ap (λ x. or-else (entries-fault k bs x) (entry-fault k bs x)) (sym (t .1)) ∙ ap (λ o. or-else o (entry-fault k bs i)) p ∙ q
-      | inr t ↦ ap (λ o. or-else o (entry-fault k bs j)) (entries-stop i f p q j (omega (arith, t .1)))
+        | inl t ↦ ap (λ x. or-else (entries-fault k bs x) (entry-fault k bs x)) (sym (t .1)) ∙ ap (λ o. or-else o (entry-fault k bs i)) p ∙ q
+        | inr t ↦ ap (λ o. or-else o (entry-fault k bs j)) (entries-stop i f p q j (omega (arith, t .1)))
       ]
 
   -- the entry at which the scan stops has the fault of the file
@@ -51,8 +51,8 @@ module _ (k : Format) (bs : List ℕ) where
   entries-none zero e i h = absurd (omega arith)
   entries-none (suc n) e i h =
       elim (eqb-tells i n) [
-        inl t ↦ subst (λ (x : ℕ). entry-fault k bs x ≡ None) (sym (t .1)) (or-right (entries-fault k bs n) (entry-fault k bs n) e)
-      | inr t ↦ entries-none n (or-left (entries-fault k bs n) (entry-fault k bs n) e) i (omega (arith, t .1))
+        | inl t ↦ subst (λ (x : ℕ). entry-fault k bs x ≡ None) (sym (t .1)) (or-right (entries-fault k bs n) (entry-fault k bs n) e)
+        | inr t ↦ entries-none n (or-left (entries-fault k bs n) (entry-fault k bs n) e) i (omega (arith, t .1))
       ]
 
   pub none-entries : (n : ℕ) → ((i : ℕ) → i < n → entry-fault k bs i ≡ None) → entries-fault k bs n ≡ None

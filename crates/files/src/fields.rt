@@ -81,7 +81,9 @@ pub fn be24(bytes: &[u8], at: u32) -> u32
     ensures { λ r. ⌜ r ≡ triple (now (bytes .entry)) at ⌝ }
 {
     let at = at as usize;
-    byte_at(bytes, at) as u32 * 65536 + byte_at(bytes, at + 1) as u32 * 256 + byte_at(bytes, at + 2) as u32
+    byte_at(bytes, at) as u32 * 65536
+        + byte_at(bytes, at + 1) as u32 * 256
+        + byte_at(bytes, at + 2) as u32
 }
 
 pub fn pin_count(bytes: &[u8], format: Format) -> u8
@@ -103,7 +105,10 @@ pub fn first_address(bytes: &[u8], format: Format, entry: u16) -> u32
     if entry == 0 {
         return 0;
     }
-    be24(bytes, format.header_len() as u32 + (entry as u32 - 1) * format.entry_len() as u32)
+    be24(
+        bytes,
+        format.header_len() as u32 + (entry as u32 - 1) * format.entry_len() as u32,
+    )
 }
 
 // The last address of a range, 1 and up.

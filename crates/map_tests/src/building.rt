@@ -24,7 +24,12 @@ pub fn bit_map(heap: Global, pins: u8, switches: &[u32]) -> Result<Vec<u8>, Allo
 }
 
 // A switch file of chip settings with a first code, and switches with addresses and codes.
-pub fn setting_map(heap: Global, pins: u8, first: u8, switches: &[(u32, u8)]) -> Result<Vec<u8>, AllocError> {
+pub fn setting_map(
+    heap: Global,
+    pins: u8,
+    first: u8,
+    switches: &[(u32, u8)],
+) -> Result<Vec<u8>, AllocError> {
     let mut file = header(heap, 1, pins, switches.len())?;
     if let Some(byte) = file.get_mut(7) {
         *byte = first;

@@ -38,5 +38,5 @@ new-holds order nodes h o s l u = record {
   ordered = record { within = λ i m. absurd m; rising = λ i m. absurd m };
   reduced = record { tested = λ i m. absurd m; shared = λ i k m. absurd m };
   lines = subst (λ (ls : List Line). Line-for-line (Means (length order) (listed nodes) order) (roots ls) (replicate 32 None)) (sym l) (nothing-meant (length order) (listed nodes) order 32);
-  used = u
+  used = u;
 }

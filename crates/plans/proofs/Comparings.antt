@@ -56,7 +56,7 @@ module _ (h : Header) (nodes : List Node) (p : Plain) (o : Holds h nodes p) (a b
         let s = held-line h nodes p o b (line-within b right) y k in
         let n = pins p in
         let one = one-root n (p .order) (order-is h nodes p o) (listed nodes) (o .reachable) (o .ordered) (o .reduced) x y
-          (roots-from h nodes p o x (root-stands h nodes p o a (line-within a left) x e)) (roots-from h nodes p o y (root-stands h nodes p o b (line-within b right) y k)) in
+        (roots-from h nodes p o x (root-stands h nodes p o a (line-within a left) x e)) (roots-from h nodes p o y (root-stands h nodes p o b (line-within b right) y k)) in
         let there : is ≡ true → Agrees n (r .0) (s .0) = λ t z l. sym (r .2 z l) ∙ one .0 (d .0 t) z l ∙ s .2 z l in
         let back : Agrees n (r .0) (s .0) → is ≡ true = λ g. d .1 (one .1 (λ z l. r .2 z l ∙ g z l ∙ sym (s .2 z l))) in
         (passed ∙ asked a (Some (r .0)) (line-empty p b None) (r .1) ∙ asked b (Some (s .0)) None (s .1), alike n (line p a) (line p b) (r .0) (s .0) is (r .1) (s .1) (there, back))

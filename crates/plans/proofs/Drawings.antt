@@ -46,7 +46,7 @@ turned-did h nodes c f e = record {
   tells = λ p o. sym (first p (o .heads));
   leaves = λ p o. refused-leaves h nodes p c f (first p (o .heads)) o;
   stand = λ p o i r. refl;
-  same = λ g z. refl
+  same = λ g z. refl;
 }
   where
     first : (p : Plain) → Heads h p → told p c ≡ Some f
@@ -71,7 +71,7 @@ state-did h nodes nodes′ c f clear says keeps stays = record {
   tells = λ p o. sym (past-input h p c (o .heads) clear ∙ says p o);
   leaves = λ p o. refused-leaves h nodes′ p c f (past-input h p c (o .heads) clear ∙ says p o) (keeps p o);
   stand = stays;
-  same = λ g z. refl
+  same = λ g z. refl;
 }
 
 -- an accepted call
@@ -84,7 +84,7 @@ accepted-did h nodes c h′ nodes′ clear says holds stays = record {
   tells = λ p o. sym (past-input h p c (o .heads) clear ∙ says p o);
   leaves = λ p o. accepted-leaves h′ nodes′ p c (past-input h p c (o .heads) clear ∙ says p o) (holds p o);
   stand = stays;
-  same = λ g z. let y : _≡_ {A = ℕ} 0 1 = cc in absurd (omega arith)
+  same = λ g z. let y : _≡_ {A = ℕ} 0 1 = cc in absurd (omega arith);
 }
 
 -- what the arguments of a draw have in hand
@@ -141,8 +141,8 @@ module _ (h : Header) (nodes : List Node) (d m : ℕ) (f : Selection) (tree work
       grew p o {root} grows =
           let e = heads-pins h p (o .heads) in
           let g : Grows (pins p) nodes ws (roots (h .lines)) (view-of (pins p) (p .order) f) nodes′ root =
-              subst (λ (ps : List ℕ). Grows (pins p) nodes ws (roots (h .lines)) (view-of (pins p) ps f) nodes′ root) (sym (o .heads .order))
-              (subst (λ (k : ℕ). Grows k nodes ws (roots (h .lines)) (view-of k (order-of h) f) nodes′ root) (sym e) grows) in
+          subst (λ (ps : List ℕ). Grows (pins p) nodes ws (roots (h .lines)) (view-of (pins p) ps f) nodes′ root) (sym (o .heads .order))
+          (subst (λ (k : ℕ). Grows k nodes ws (roots (h .lines)) (view-of k (order-of h) f) nodes′ root) (sym e) grows) in
           let s = draw-nodes (h .pins) (h .size) d m f (length nodes) tree work clear in
           let w = work-enough (h .pins) (h .size) work (draw-work (h .pins) (h .size) d m f (length nodes) tree work clear) in
           let few = h .sized in
@@ -152,13 +152,13 @@ module _ (h : Header) (nodes : List Node) (d m : ℕ) (f : Selection) (tree work
       drawn (Some b) r h′ grows s =
           subst (λ (x : Result (Unit {0}) Fault). Did h nodes call x h′ nodes′) (sym (s .0))
           (accepted-did h nodes call h′ nodes′ clear
-            (λ p o. past-tree p o ∙ ap (λ t. refuse-if t (at Parts (p .size)) None) (few-enough h nodes p o d small vacant f nodes′ b (grew p o grows) h′ (s .1)))
-            (λ p o. holds-new h nodes p o d small vacant f nodes′ b (grew p o grows) h′ (s .1))
-            (λ p o. stands h nodes p o d small vacant f nodes′ (grew p o grows)))
+          (λ p o. past-tree p o ∙ ap (λ t. refuse-if t (at Parts (p .size)) None) (few-enough h nodes p o d small vacant f nodes′ b (grew p o grows) h′ (s .1)))
+          (λ p o. holds-new h nodes p o d small vacant f nodes′ b (grew p o grows) h′ (s .1))
+          (λ p o. stands h nodes p o d small vacant f nodes′ (grew p o grows)))
       drawn None r h′ grows s =
           subst (λ (x : Header). Did h nodes call r x nodes′) (sym (s .1))
           (subst (λ (x : Result (Unit {0}) Fault). Did h nodes call x h nodes′) (sym (s .0))
-            (state-did h nodes nodes′ call (at Parts (h .size)) clear
-              (λ p o. past-tree p o ∙ ap (λ t. refuse-if t (at Parts (p .size)) None) (too-many h nodes p o d small vacant f nodes′ (grew p o grows)) ∙ ap (λ z. Some (at Parts z)) (o .heads .size))
-              (λ p o. kept-holds h nodes p o nodes′ f d small vacant (grew p o grows))
-              (λ p o. stands h nodes p o d small vacant f nodes′ (grew p o grows))))
+          (state-did h nodes nodes′ call (at Parts (h .size)) clear
+          (λ p o. past-tree p o ∙ ap (λ t. refuse-if t (at Parts (p .size)) None) (too-many h nodes p o d small vacant f nodes′ (grew p o grows)) ∙ ap (λ z. Some (at Parts z)) (o .heads .size))
+          (λ p o. kept-holds h nodes p o nodes′ f d small vacant (grew p o grows))
+          (λ p o. stands h nodes p o d small vacant f nodes′ (grew p o grows))))

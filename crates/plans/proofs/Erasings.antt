@@ -32,7 +32,7 @@ module _ (h : Header) (nodes : List Node) (d work : ℕ) (clear : None ≡ count
     tells = λ p o. sym (count-empty h nodes p o d (length nodes) work clear f e q);
     leaves = λ p o. refused-leaves h nodes p (erase d (length nodes) work) f (count-empty h nodes p o d (length nodes) work clear f e q) o;
     stand = λ p o i r. refl;
-    same = λ g z. refl
+    same = λ g z. refl;
   }
 
   module _ (h′ : Header) (b : Branch) (held-b : getD (h .lines) d Empty ≡ Held b) (put : Put h nodes d Empty h′) where
@@ -40,8 +40,8 @@ module _ (h : Header) (nodes : List Node) (d work : ℕ) (clear : None ≡ count
       from′ : (x : Branch) → In x (held (roots (set (h .lines) d Empty))) → From (λ i. In i (o .reachable)) (listed nodes) 0 x
       from′ x m =
           elim (in-set x (h .lines) d Empty m) [
-            inl q ↦ roots-from h nodes p o x q
-          | inr q ↦ (let z : _≡_ {A = ℕ} 0 1 = cc in absurd (omega arith))
+            | inl q ↦ roots-from h nodes p o x q
+            | inr q ↦ (let z : _≡_ {A = ℕ} 0 1 = cc in absurd (omega arith))
           ]
 
       erased : Holds h′ nodes (with-line p d None)
@@ -55,5 +55,5 @@ module _ (h : Header) (nodes : List Node) (d work : ℕ) (clear : None ≡ count
       tells = λ p o. sym (count-told-held h nodes p o d (length nodes) work clear b held-b);
       leaves = λ p o. accepted-leaves h′ nodes p (erase d (length nodes) work) (count-told-held h nodes p o d (length nodes) work clear b held-b) (erased p o);
       stand = λ p o i r. refl;
-      same = λ g z. let y : _≡_ {A = ℕ} 0 1 = cc in absurd (omega arith)
+      same = λ g z. let y : _≡_ {A = ℕ} 0 1 = cc in absurd (omega arith);
     }

@@ -85,7 +85,7 @@ module _ (h : Header) (nodes : List Node) (p : Plain) (o : Holds h nodes p) (d :
   old-in : (b : Branch) → In b (held (roots (h .lines))) → In (tree (listed nodes) n 0 b) ts
   old-in b m =
       let e : map (tree (listed nodes) n 0) (held (roots (h .lines))) ≡ held (views n (p .order) (p .lines)) =
-          sym (held-map (tree (listed nodes) n 0) (roots (h .lines))) ∙ ap held (means-views n (p .order) (order-is h nodes p o) (listed nodes) (roots (h .lines)) (p .lines) (o .lines)) in
+      sym (held-map (tree (listed nodes) n 0) (roots (h .lines))) ∙ ap held (means-views n (p .order) (order-is h nodes p o) (listed nodes) (roots (h .lines)) (p .lines) (o .lines)) in
       let there = subst (In (tree (listed nodes) n 0 b)) e (in-map (tree (listed nodes) n 0) b (held (roots (h .lines))) m) in
       let r = from-map (each (view-of n (p .order))) (Some (tree (listed nodes) n 0 b)) (p .lines) (from-held (tree (listed nodes) n 0 b) (views n (p .order) (p .lines)) there) in
       known (r .0) (r .1) (r .2)
@@ -119,8 +119,8 @@ module _ (h : Header) (nodes : List Node) (p : Plain) (o : Holds h nodes p) (d :
       from′ : (c : Branch) → In c (held (roots (set (h .lines) d (Held b)))) → From (λ i. In i live) (listed nodes′) 0 c
       from′ c m =
           elim (in-set c (h .lines) d (Held b) m) [
-            inl q ↦ kept c q .0
-          | inr q ↦ (let e : b ≡ c = cc in subst (λ (x : Branch). From (λ i. In i live) (listed nodes′) 0 x) e (new .0))
+            | inl q ↦ kept c q .0
+            | inr q ↦ (let e : b ≡ c = cc in subst (λ (x : Branch). From (λ i. In i live) (listed nodes′) 0 x) e (new .0))
           ]
 
       whole′ : length nodes′ ≡ p .size
@@ -133,8 +133,8 @@ module _ (h : Header) (nodes : List Node) (p : Plain) (o : Holds h nodes p) (d :
       holds-new =
           put-holds h nodes′ p (o .heads) d (Held b) (Some f) h′ put whole′ live (live-nodes .ordered) (live-nodes .reduced) from′
           (lines-set (Means n (listed nodes′) (p .order)) (h .lines) (p .lines) d (Held b) (Some f)
-            (means-kept n (p .order) (order-is h nodes p o) (listed nodes) (listed nodes′) (h .lines) (p .lines) (λ c m. kept c m .1) (o .lines))
-            (tree-means n (p .order) (order-is h nodes p o) (listed nodes′) b f .0 (new .1)))
+          (means-kept n (p .order) (order-is h nodes p o) (listed nodes) (listed nodes′) (h .lines) (p .lines) (λ c m. kept c m .1) (o .lines))
+          (tree-means n (p .order) (order-is h nodes p o) (listed nodes′) b f .0 (new .1)))
 
       -- what is reached is live, and so there are no more parts than nodes
       pub few-enough : ltb (p .size) (used-of (with-line p d (Some f))) ≡ false
@@ -174,22 +174,22 @@ kept-holds h nodes p o nodes′ f d small vacant w =
       reached = record {
         apart = o .reached .apart;
         reached = λ i m. let r = o .reached .reached i m in (r .0, r .1, (r .2 .0, sym (follow-kept n T T′ (λ i. In i (o .reachable)) (o .ordered) same (r .2 .0) 0 (r .0) (roots-from h nodes p o (r .0) (r .1))) ∙ r .2 .1));
-        all = λ i r. o .reached .all i (r .0, r .1, (r .2 .0, follow-kept n T T′ (λ i. In i (o .reachable)) (o .ordered) same (r .2 .0) 0 (r .0) (roots-from h nodes p o (r .0) (r .1)) ∙ r .2 .1))
+        all = λ i r. o .reached .all i (r .0, r .1, (r .2 .0, follow-kept n T T′ (λ i. In i (o .reachable)) (o .ordered) same (r .2 .0) 0 (r .0) (roots-from h nodes p o (r .0) (r .1)) ∙ r .2 .1));
       };
       ordered = ordered-same n T T′ (o .reachable) same (o .ordered);
       reduced = reduced-same T T′ (o .reachable) same (o .reduced);
       lines = means-kept n (p .order) (order-is h nodes p o) T T′ (h .lines) (p .lines) (λ c m. k c m .1) (o .lines);
-      used = o .used
+      used = o .used;
     }
   where
     ordered-same : (n : ℕ) (T T′ : Table) (us : List ℕ) → ((i : ℕ) → In i us → T i ≡ T′ i) → Ordered n T (λ i. In i us) → Ordered n T′ (λ i. In i us)
     ordered-same n T T′ us same o = record {
       within = λ i m. subst (λ (x : Node). x .place < n) (same i m) (o .within i m);
-      rising = λ i m v. subst (λ (x : Node). From (λ i. In i us) T′ (suc (x .place)) (side v x)) (same i m) (from-wider T T′ (λ i. In i us) (λ i. In i us) same (λ i m. m) (suc (T i .place)) (side v (T i)) (o .rising i m v))
+      rising = λ i m v. subst (λ (x : Node). From (λ i. In i us) T′ (suc (x .place)) (side v x)) (same i m) (from-wider T T′ (λ i. In i us) (λ i. In i us) same (λ i m. m) (suc (T i .place)) (side v (T i)) (o .rising i m v));
     }
 
     reduced-same : (T T′ : Table) (us : List ℕ) → ((i : ℕ) → In i us → T i ≡ T′ i) → Reduced T (λ i. In i us) → Reduced T′ (λ i. In i us)
     reduced-same T T′ us same r = record {
       tested = λ i m e. r .tested i m (subst (λ (x : Node). x .low ≡ x .high) (sym (same i m)) e);
-      shared = λ i k m q e. r .shared i k m q (same i m ∙ e ∙ sym (same k q))
+      shared = λ i k m q e. r .shared i k m q (same i m ∙ e ∙ sym (same k q));
     }

@@ -28,8 +28,8 @@ pub among-found : (order : List ℕ) (p i : ℕ) → getD order i 0 ≡ p → (k
 among-found order p i e zero h = absurd (omega arith)
 among-found order p i e (suc k) h =
     elim (eqb-tells i k) [
-      inl t ↦ (let f : getD order k 0 ≡ p = ap (λ x. getD order x 0) (sym (t .1)) ∙ e in grind (arith, tells))
-    | inr t ↦ (let r = among-found order p i e k (omega (arith, t .1)) in simp r)
+      | inl t ↦ (let f : getD order k 0 ≡ p = ap (λ x. getD order x 0) (sym (t .1)) ∙ e in grind (arith, tells))
+      | inr t ↦ (let r = among-found order p i e k (omega (arith, t .1)) in simp r)
     ]
 
 pub below-more : (order : List ℕ) (i : ℕ) → misplaced-below order i ≡ None → misplaced order i ≡ false → misplaced-below order (i + 1) ≡ None
@@ -39,8 +39,8 @@ pub below-found : (order : List ℕ) (i : ℕ) → misplaced-below order i ≡ N
 below-found order i e m zero h = absurd (omega arith)
 below-found order i e m (suc k) h =
     elim (eqb-tells i k) [
-      inl t ↦ subst (λ (x : ℕ). misplaced-below order (suc x) ≡ Some (at OrderPin i)) (t .1) (simp (e, m))
-    | inr t ↦ (let r = below-found order i e m k (omega (arith, t .1)) in simp r)
+      | inl t ↦ subst (λ (x : ℕ). misplaced-below order (suc x) ≡ Some (at OrderPin i)) (t .1) (simp (e, m))
+      | inr t ↦ (let r = below-found order i e m k (omega (arith, t .1)) in simp r)
     ]
 
 pub make-accepted : (order : List ℕ) (size : ℕ) → 1 ≤ length order → length order ≤ 20 → misplaced-below order (length order) ≡ None → 1 ≤ size → size ≤ 4096 → make-told order size ≡ None
@@ -95,8 +95,8 @@ none-each : (order : List ℕ) (n : ℕ) → misplaced-below order n ≡ None �
 none-each order zero e i h = absurd (omega arith)
 none-each order (suc n) e i h =
     elim (eqb-tells i n) [
-      inl t ↦ ap (misplaced order) (t .1) ∙ passed (misplaced order n) (at OrderPin n) (or-right (misplaced-below order n) (refuse-if (misplaced order n) (at OrderPin n) None) e)
-    | inr t ↦ none-each order n (or-left (misplaced-below order n) (refuse-if (misplaced order n) (at OrderPin n) None) e) i (omega (arith, t .1))
+      | inl t ↦ ap (misplaced order) (t .1) ∙ passed (misplaced order n) (at OrderPin n) (or-right (misplaced-below order n) (refuse-if (misplaced order n) (at OrderPin n) None) e)
+      | inr t ↦ none-each order n (or-left (misplaced-below order n) (refuse-if (misplaced order n) (at OrderPin n) None) e) i (omega (arith, t .1))
     ]
 
 each-none : (order : List ℕ) (n : ℕ) → ((i : ℕ) → i < n → misplaced order i ≡ false) → misplaced-below order n ≡ None
@@ -118,7 +118,7 @@ unfolding Distinct
 is-order order e = record {
   full = refl;
   small = λ p m. let r = in-at p order m in subst (λ (x : ℕ). x < length order) (r .2) (small-at order (r .0) (none-each order (length order) e (r .0) (r .1)));
-  once = distinct-apart order (λ i j h l q. let f = among-found order (getD order j 0) i q j h in let n = new-at order j (none-each order (length order) e j l) in let z : _≡_ {A = ℕ} 0 1 = ap (λ (b : Bool). cond b 1 0) (sym n ∙ f) in omega arith)
+  once = distinct-apart order (λ i j h l q. let f = among-found order (getD order j 0) i q j h in let n = new-at order j (none-each order (length order) e j l) in let z : _≡_ {A = ℕ} 0 1 = ap (λ (b : Bool). cond b 1 0) (sym n ∙ f) in omega arith);
 }
 
 pub orders-told : Orders-told

@@ -74,7 +74,7 @@ module _ (h : Header) (nodes : List Node) (p : Plain) (heads : Heads h p) (whole
     ordered = ordered-reached (pins p) (listed nodes) (λ i. In i us) ordered (held (roots (h .lines))) reachable from reaches;
     reduced = record { tested = λ i m. reduced .tested i (within i m); shared = λ i k m q. reduced .shared i k (within i m) (within k q) };
     lines = lines;
-    used = sym used
+    used = sym used;
   }
 
 -- a plan whose line was changed holds the plain plan with that line, where the roots stand in a reduced diagram and mean the lines
@@ -90,7 +90,7 @@ put-holds h nodes p heads d x y h′ put whole us ordered reduced from lines =
     holds-again h′ nodes (with-line p d y) (record { order = heads .order ∙ sym (put .order); size = heads .size ∙ sym (put .size) }) whole us ordered reduced from′
     (subst (λ (ls : List Line). Line-for-line (Means (pins p) (listed nodes) (p .order)) (roots ls) (set (p .lines) d y)) (sym (put .lines)) lines)
     (subst (λ (ls : List Line). length (numbering (listed nodes) (pins p) 0 (held (roots ls))) ≡ h′ .usage .used) (sym (put .lines))
-      (told (numbering (listed nodes) (pins p) 0 (held (roots (set (h .lines) d x)))) (numbering-reaches (pins p) (listed nodes) us ordered (held (roots (set (h .lines) d x))) from)))
+    (told (numbering (listed nodes) (pins p) 0 (held (roots (set (h .lines) d x)))) (numbering-reaches (pins p) (listed nodes) us ordered (held (roots (set (h .lines) d x))) from)))
 
 -- what a call leaves, by what it tells
 pub refused-leaves : (h : Header) (nodes : List Node) (p : Plain) (c : Call) (f : Fault) → told p c ≡ Some f → Holds h nodes p → Holds h nodes (after p c)

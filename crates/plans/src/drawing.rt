@@ -35,11 +35,25 @@ fn check_draw(header: &Header, pins: u32, line: u8, nodes: usize, work: usize) -
 }
 
 // A root for a built tree, beside the lines of a plan. None where no slot is left.
-fn grow_tree(header: &Header, tree: Tree, records: &[Record], nodes: &mut [Node], work: &mut [u32]) -> Option<Branch>
+fn grow_tree(
+    header: &Header,
+    tree: Tree,
+    records: &[Record],
+    nodes: &mut [Node],
+    work: &mut [u32],
+) -> Option<Branch>
     ensures { λ r. ⌜ ((f : Selection) → Built (now (header .entry) .pins) f (now (records .entry)) tree → Grows (now (header .entry) .pins) (now (nodes .entry)) (now (work .entry)) (roots (now (header .entry) .lines)) (view-of (now (header .entry) .pins) (order-of (now (header .entry))) f) (now (nodes .exit)) r) ⌝ }
 {
     let lines = header.lines;
-    draw_root(tree, records, header.order(), nodes, work, header.pins, &lines)
+    draw_root(
+        tree,
+        records,
+        header.order(),
+        nodes,
+        work,
+        header.pins,
+        &lines,
+    )
 }
 
 impl OpenPlan {

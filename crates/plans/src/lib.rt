@@ -1,11 +1,11 @@
 // Plans: a header of 32 lines over a node table, and the calls on it.
-pub mod header;
-mod order;
-mod checks;
-pub mod open;
-pub mod making;
 pub mod asking;
-mod settling;
-pub mod erasing;
+mod checks;
 pub mod drawing;
+pub mod erasing;
+pub mod header;
 pub mod laws;
+pub mod making;
+pub mod open;
+mod order;
+mod settling;

@@ -23,7 +23,13 @@ impl Header {
     }
 
     // Puts the root that was grown on a line, or refuses where there was no room for it.
-    pub(crate) fn settle(&mut self, line: u8, root: Option<Branch>, nodes: &[Node], work: &mut [u32]) -> Result<(), Fault>
+    pub(crate) fn settle(
+        &mut self,
+        line: u8,
+        root: Option<Branch>,
+        nodes: &[Node],
+        work: &mut [u32],
+    ) -> Result<(), Fault>
         requires { ⌜ line < 32 ⌝ ∗ ⌜ length (now nodes) ≤ 4096 ⌝ ∗ ⌜ length (now nodes) ≤ length (now work) ⌝ }
         ensures { λ r. ⌜ Settles (now (self .entry)) (now (nodes .entry)) line root r (now (self .exit)) ⌝ }
     {

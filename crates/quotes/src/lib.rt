@@ -1,3 +1,3 @@
 // What the program selquote answers, as a function of the bytes that it reads.
-pub mod size;
-pub mod answer;
+pub mod price;
+pub mod quoting;

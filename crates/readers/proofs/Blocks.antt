@@ -23,7 +23,7 @@ module _ {n : ℕ} (f g : ℕ → ℕ) (same : (a : ℕ) → f a ≡ g a) (j p :
     right = d .right;
     left-in = d .left-in;
     right-in = d .right-in;
-    differ = λ e. d .differ (same (at n j p (d .left)) ∙ e ∙ sym (same (at n j p (d .right))))
+    differ = λ e. d .differ (same (at n j p (d .left)) ∙ e ∙ sym (same (at n j p (d .right))));
   }
 
 module _ (k : Format) (bs : List ℕ) (o : Obeys k bs) where

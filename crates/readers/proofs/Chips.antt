@@ -29,5 +29,5 @@ module _ (bs : List ℕ) (o : Obeys Settings bs) where
     right = d .right;
     left-in = d .left-in;
     right-in = d .right-in;
-    differ = λ e. d .differ (apart (at (pins-of Settings bs) j p (d .left)) (at (pins-of Settings bs) j p (d .right)) e)
+    differ = λ e. d .differ (apart (at (pins-of Settings bs) j p (d .left)) (at (pins-of Settings bs) j p (d .right)) e);
   }

@@ -17,8 +17,8 @@ module _ (address code : ℕ → ℕ) (count : ℕ) (steps : Steps address code 
   climbing i zero h q = let e : i ≡ 0 = omega arith in subst (λ (x : ℕ). address i ≤ address x) e (omega arith)
   climbing i (suc j) h q =
       elim (leb-tells i j) [
-        inl t ↦ let up = subst (λ (x : ℕ). address j ≤ address x) (add-one j) (steps .climbs j (omega arith)) in let low = climbing i j (t .1) (omega arith) in omega (arith, up, low)
-      | inr t ↦ let e : i ≡ suc j = omega (arith, t .1) in subst (λ (x : ℕ). address i ≤ address x) e (omega arith)
+        | inl t ↦ let up = subst (λ (x : ℕ). address j ≤ address x) (add-one j) (steps .climbs j (omega arith)) in let low = climbing i j (t .1) (omega arith) in omega (arith, up, low)
+        | inr t ↦ let e : i ≡ suc j = omega (arith, t .1) in subst (λ (x : ℕ). address i ≤ address x) e (omega arith)
       ]
 
   -- what rises is above an address from the next one on
@@ -26,7 +26,7 @@ module _ (address code : ℕ → ℕ) (count : ℕ) (steps : Steps address code 
   next-alone a i there low next = record {
     there = there;
     low = low;
-    next = λ z u v. let w = next (omega arith) in let c = climbing (i + 1) z (omega arith) v in omega (arith, w, c)
+    next = λ z u v. let w = next (omega arith) in let c = climbing (i + 1) z (omega arith) v in omega (arith, w, c);
   }
 
   abbrev pub step-code : ℕ → ℕ
@@ -47,7 +47,7 @@ module _ (address code : ℕ → ℕ) (count : ℕ) (steps : Steps address code 
       pub uniform : (c : ℕ) → c ≡ code i → (i < count → first + (size - 1) < address (i + 1)) → Uniform n step-code j p c
       uniform c q past = record {
         inside = h;
-        same = λ x k. ap code (told-last address (steps .start) (first + x) count i (next-alone (first + x) i (found .there) (omega (arith, found .low)) (λ m. omega (arith, past m, k)))) ∙ sym q
+        same = λ x k. ap code (told-last address (steps .start) (first + x) count i (next-alone (first + x) i (found .there) (omega (arith, found .low)) (λ m. omega (arith, past m, k)))) ∙ sym q;
       }
 
       pub differing : i < count → address (i + 1) ≤ first + (size - 1) → Differing n step-code j p
@@ -63,5 +63,5 @@ module _ (address code : ℕ → ℕ) (count : ℕ) (steps : Steps address code 
             right = next - first;
             left-in = pow-pos (n - j);
             right-in = omega (arith, up, within, pow-pos (n - j));
-            differ = λ q. steps .changing i more (ap code e ∙ sym (ap step-code left) ∙ q ∙ ap step-code right ∙ ap code (told-last address (steps .start) next count (i + 1) there))
+            differ = λ q. steps .changing i more (ap code e ∙ sym (ap step-code left) ∙ q ∙ ap step-code right ∙ ap code (told-last address (steps .start) next count (i + 1) there));
           }

@@ -54,28 +54,28 @@ module _ (bs : List ℕ) where
         let w = halved i in
         let r = w .0 in
         elim (w .1) [
-          inl e ↦
-            let up = o .apart r (omega (arith, e)) (omega (arith, e)) in
-            let low : change-at Ranges bs i ≡ last-of bs r + 1 = ap (change-at Ranges bs) e ∙ even-change r (omega (arith, e)) in
-            let high : change-at Ranges bs (i + 1) ≡ first-of Ranges bs (r + 1) = ap (λ x. change-at Ranges bs (x + 1)) e ∙ odd-change r in
-            omega (arith, up, low, high)
-        | inr e ↦
-            let up = o .forward (r + 1) (omega arith) (omega (arith, e)) in
-            let q : i + 1 ≡ 2 * (r + 1) = omega (arith, e) in
-            let low : change-at Ranges bs i ≡ first-of Ranges bs (r + 1) = ap (change-at Ranges bs) e ∙ odd-change r in
-            let high : change-at Ranges bs (i + 1) ≡ last-of bs (r + 1) + 1 = ap (change-at Ranges bs) q ∙ even-change (r + 1) (omega arith) in
-            omega (arith, up, low, high)
+          | inl e ↦
+              let up = o .apart r (omega (arith, e)) (omega (arith, e)) in
+              let low : change-at Ranges bs i ≡ last-of bs r + 1 = ap (change-at Ranges bs) e ∙ even-change r (omega (arith, e)) in
+              let high : change-at Ranges bs (i + 1) ≡ first-of Ranges bs (r + 1) = ap (λ x. change-at Ranges bs (x + 1)) e ∙ odd-change r in
+              omega (arith, up, low, high)
+          | inr e ↦
+              let up = o .forward (r + 1) (omega arith) (omega (arith, e)) in
+              let q : i + 1 ≡ 2 * (r + 1) = omega (arith, e) in
+              let low : change-at Ranges bs i ≡ first-of Ranges bs (r + 1) = ap (change-at Ranges bs) e ∙ odd-change r in
+              let high : change-at Ranges bs (i + 1) ≡ last-of bs (r + 1) + 1 = ap (change-at Ranges bs) q ∙ even-change (r + 1) (omega arith) in
+              omega (arith, up, low, high)
         ]
 
     range-steps : Steps (change-at Ranges bs) (code-of Ranges bs) (2 * count-of Ranges bs)
     range-steps = record {
       start = refl;
       climbs = λ i h. elim (eqb-tells i 0) [
-        inl t ↦ subst (λ (x : ℕ). change-at Ranges bs x ≤ change-at Ranges bs (i + 1)) (sym (t .1)) (omega arith)
-      | inr t ↦ omega (arith, strict i (omega (arith, t .1)) h)
+        | inl t ↦ subst (λ (x : ℕ). change-at Ranges bs x ≤ change-at Ranges bs (i + 1)) (sym (t .1)) (omega arith)
+        | inr t ↦ omega (arith, strict i (omega (arith, t .1)) h)
       ];
       strict = strict;
-      changing = λ i h e. omega (arith, e)
+      changing = λ i h e. omega (arith, e);
     }
 
     pub ranges-mean : (a : ℕ) → changed Ranges bs a ≡ meaning Ranges bs a
@@ -87,18 +87,18 @@ module _ (bs : List ℕ) where
         let w = halved i in
         let r = w .0 in
         elim (w .1) [
-          inl e ↦
-            let out : covered bs a c ≡ false = outside l r e in
-            let z : i % 2 ≡ 0 = omega (arith, e) in
-            z ∙ sym (ap (λ (b : Bool). cond b 1 0) out)
-        | inr e ↦
-            let low : change-at Ranges bs i ≡ first-of Ranges bs (r + 1) = ap (change-at Ranges bs) e ∙ odd-change r in
-            let q : i + 1 ≡ 2 * (r + 1) = omega (arith, e) in
-            let high : change-at Ranges bs (i + 1) ≡ last-of bs (r + 1) + 1 = ap (change-at Ranges bs) q ∙ even-change (r + 1) (omega arith) in
-            let next = l .next (i + 1) (omega arith) (omega (arith, e, l .there)) in
-            let in′ : covered bs a c ≡ true = covered-told bs a c .1 (r + 1, omega arith, omega (arith, e, l .there), omega (arith, low, l .low), omega (arith, high, next)) in
-            let z : i % 2 ≡ 1 = omega (arith, e) in
-            z ∙ sym (ap (λ (b : Bool). cond b 1 0) in′)
+          | inl e ↦
+              let out : covered bs a c ≡ false = outside l r e in
+              let z : i % 2 ≡ 0 = omega (arith, e) in
+              z ∙ sym (ap (λ (b : Bool). cond b 1 0) out)
+          | inr e ↦
+              let low : change-at Ranges bs i ≡ first-of Ranges bs (r + 1) = ap (change-at Ranges bs) e ∙ odd-change r in
+              let q : i + 1 ≡ 2 * (r + 1) = omega (arith, e) in
+              let high : change-at Ranges bs (i + 1) ≡ last-of bs (r + 1) + 1 = ap (change-at Ranges bs) q ∙ even-change (r + 1) (omega arith) in
+              let next = l .next (i + 1) (omega arith) (omega (arith, e, l .there)) in
+              let in′ : covered bs a c ≡ true = covered-told bs a c .1 (r + 1, omega arith, omega (arith, e, l .there), omega (arith, low, l .low), omega (arith, high, next)) in
+              let z : i % 2 ≡ 1 = omega (arith, e) in
+              z ∙ sym (ap (λ (b : Bool). cond b 1 0) in′)
         ]
       where
         not-covered : (b : Bool) → (b ≡ true → ⊥) → b ≡ false
@@ -114,10 +114,10 @@ module _ (bs : List ℕ) where
             let begins : change-at Ranges bs (2 * q - 1) ≡ first-of Ranges bs q = ap (change-at Ranges bs) odd ∙ odd-change (q - 1) ∙ ap (first-of Ranges bs) one in
             let ends : change-at Ranges bs (2 * q) ≡ last-of bs q + 1 = even-change q (s .1) in
             elim (leb-tells (2 * q) i) [
-              inl u ↦ omega (arith, climbing (change-at Ranges bs) (code-of Ranges bs) (2 * count-of Ranges bs) range-steps (2 * q) i (u .1) (l .there), l .low, ends, s .4)
-            | inr u ↦ elim (leb-tells (2 * q - 1) i) [
-                inl v ↦ omega (arith, u .1, v .1, e, s .1)
-              | inr v ↦ omega (arith, l .next (2 * q - 1) (v .1) (omega (arith, s .2)), begins, s .3)
+              | inl u ↦ omega (arith, climbing (change-at Ranges bs) (code-of Ranges bs) (2 * count-of Ranges bs) range-steps (2 * q) i (u .1) (l .there), l .low, ends, s .4)
+              | inr u ↦ elim (leb-tells (2 * q - 1) i) [
+                | inl v ↦ omega (arith, u .1, v .1, e, s .1)
+                | inr v ↦ omega (arith, l .next (2 * q - 1) (v .1) (omega (arith, s .2)), begins, s .3)
               ]
             ])
 

@@ -1,9 +1,9 @@
 // Readers of accepted map files, in the caller's own bytes; each is a source.
-mod lookup;
-pub mod entry;
 pub mod bit_file;
 pub mod bits;
-pub mod setting_file;
-pub mod settings;
+pub mod entry;
+mod lookup;
 pub mod range_file;
 pub mod ranges;
+pub mod setting_file;
+pub mod settings;

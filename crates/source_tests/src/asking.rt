@@ -50,7 +50,7 @@ fn true_of(codes: &[u16], pins: u32, level: u32, block: u32) -> Asked
     if level <= pins {
         for address in 0..1u32 << pins {
             if address >> (pins - level) == block {
-                told = told.with(code_at(codes, address));
+                told = told.with(code_at(codes, address as usize));
             }
         }
     }

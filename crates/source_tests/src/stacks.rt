@@ -31,17 +31,30 @@ struct Stack {
 
 // Mounted over flipped over inverted.
 fn mounted_last(codes: &Table, stack: Stack) -> Table {
-    mounted(&flipped(&inverted(codes), stack.mask), 2, stack.base, stack.fill.encode())
+    mounted(
+        &flipped(&inverted(codes), stack.mask),
+        2,
+        stack.base,
+        stack.fill.encode(),
+    )
 }
 
 // The source by value, and each layer by value.
-fn check_by_value<S: Source<Of = bool> + Drop>(source: S, codes: &Table, stack: Stack) -> Result<(), Fail> {
+fn check_by_value<S: Source<Of = bool> + Drop>(
+    source: S,
+    codes: &Table,
+    stack: Stack,
+) -> Result<(), Fail> {
     let below = Flipped::new(Inverted::new(source), stack.mask)?;
     let made = Mounted::new(below, 4, stack.base, stack.fill)?;
     check_source(&made, &mounted_last(codes, stack))
 }
 
-fn check_by_reference<S: Source<Of = bool>>(source: &S, codes: &Table, stack: Stack) -> Result<(), Fail> {
+fn check_by_reference<S: Source<Of = bool>>(
+    source: &S,
+    codes: &Table,
+    stack: Stack,
+) -> Result<(), Fail> {
     let line = Inverted::new(source);
     let below = Flipped::new(&line, stack.mask)?;
     let made = Mounted::new(&below, 4, stack.base, stack.fill)?;
@@ -49,7 +62,11 @@ fn check_by_reference<S: Source<Of = bool>>(source: &S, codes: &Table, stack: St
 }
 
 // Inverted over flipped over mounted. The mask turns over the pins of the base too.
-fn check_mounted_first<S: Source<Of = bool> + Drop>(source: S, codes: &Table, stack: Stack) -> Result<(), Fail> {
+fn check_mounted_first<S: Source<Of = bool> + Drop>(
+    source: S,
+    codes: &Table,
+    stack: Stack,
+) -> Result<(), Fail> {
     let mask = stack.mask % 4 * 5;
     let below = Mounted::new(source, 4, stack.base, stack.fill)?;
     let made = Inverted::new(Flipped::new(below, mask)?);
@@ -58,7 +75,11 @@ fn check_mounted_first<S: Source<Of = bool> + Drop>(source: S, codes: &Table, st
 }
 
 // Mounted in 3 pins, and that in 5 pins with the other fill end.
-fn check_mounted_twice<S: Source<Of = bool> + Drop>(source: S, codes: &Table, stack: Stack) -> Result<(), Fail> {
+fn check_mounted_twice<S: Source<Of = bool> + Drop>(
+    source: S,
+    codes: &Table,
+    stack: Stack,
+) -> Result<(), Fail> {
     let base = stack.mask % 2;
     let other = !stack.fill;
     let below = Mounted::new(source, 3, base, stack.fill)?;

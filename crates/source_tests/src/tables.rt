@@ -1,19 +1,15 @@
 // Truth tables: the code of each address. A map of fewer than 5 pins has the first ones.
 ghost use Prim.Native.Nat.{_≤_};
-ghost use lib.ListN.{length};
 
 pub type Table = [u16; 32];
 
-pub const BITS: [u16; 2] = [0, 1];
-
-// Chip 1, chip 2, and the last chip with the most waits.
-pub const SETTINGS: [u16; 3] = [8, 16, 127];
+// Idle, chip 1, chip 2, and the last chip with the most waits.
+pub const SETTINGS: [u16; 4] = [0, 8, 16, 127];
 
 // No kind's code.
 pub const NO_CODE: u16 = u16::MAX;
 
-pub fn code_at(codes: &[u16], address: u32) -> u16 {
-    let address = address as usize;
+pub fn code_at(codes: &[u16], address: usize) -> u16 {
     if address < codes.len() {
         codes[address]
     } else {
@@ -21,15 +17,26 @@ pub fn code_at(codes: &[u16], address: u32) -> u16 {
     }
 }
 
-// The table of a pattern: its digits, lowest first, choose from the palette.
-pub fn table(palette: &[u16], pattern: usize) -> Table
-    requires { ⌜ 1 ≤ length (now palette) ⌝ }
-{
+// The bits of a pattern, lowest first.
+pub fn bit_table(pattern: u64) -> Table {
     let mut made = [0; 32];
     let mut rest = pattern;
     for address in 0..32 {
-        made[address] = palette[rest % palette.len()];
-        rest = rest / palette.len();
+        if rest % 2 == 1 {
+            made[address] = 1;
+        }
+        rest = rest / 2;
+    }
+    made
+}
+
+// Two bits of a pattern for each setting, lowest first.
+pub fn setting_table(pattern: u64) -> Table {
+    let mut made = [0; 32];
+    let mut rest = pattern;
+    for address in 0..32 {
+        made[address] = code_at(&SETTINGS, (rest % 4) as usize);
+        rest = rest / 4;
     }
     made
 }
@@ -46,8 +53,8 @@ pub fn inverted(codes: &Table) -> Table {
 // Each address with the code of the address that differs from it in the bits of the mask.
 pub fn flipped(codes: &Table, mask: u32) -> Table {
     let mut made = [0; 32];
-    for address in 0..32u32 {
-        made[address as usize] = code_at(codes, address ^ mask);
+    for address in 0..32 {
+        made[address] = code_at(codes, address ^ mask as usize);
     }
     made
 }
@@ -57,9 +64,9 @@ pub fn mounted(codes: &Table, own: u32, base: u32, fill: u16) -> Table
     requires { ⌜ own ≤ 20 ⌝ }
 {
     let mut made = [fill; 32];
-    for address in 0..32u32 {
-        if address >> own == base {
-            made[address as usize] = code_at(codes, address % (1 << own));
+    for address in 0..32 {
+        if address >> own == base as usize {
+            made[address] = code_at(codes, address ^ (base as usize) << own);
         }
     }
     made

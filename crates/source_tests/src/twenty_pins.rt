@@ -48,7 +48,7 @@ fn true_of(step: Step, level: u32, block: u32) -> Asked
         Told::Outside
     } else if block < own {
         Told::All(step.low)
-    } else if block == own && step.at % (1 << (20 - level)) != 0 {
+    } else if block == own && own << (20 - level) != step.at {
         Told::Mixed
     } else {
         Told::All(step.high)
@@ -144,7 +144,12 @@ fn check_flipped<S: Source>(source: &S, step: Step) -> Result<(), Fail> {
     check_step(&Flipped::new(source, TOP)?, step)
 }
 
-fn check_mounted<S: Source<Of = bool>>(source: &S, base: u32, fill: bool, step: Step) -> Result<(), Fail> {
+fn check_mounted<S: Source<Of = bool>>(
+    source: &S,
+    base: u32,
+    fill: bool,
+    step: Step,
+) -> Result<(), Fail> {
     check_step(&Mounted::new(source, 20, base, fill)?, step)
 }
 
@@ -153,9 +158,32 @@ fn check_mounted<S: Source<Of = bool>>(source: &S, base: u32, fill: bool, step: 
 fn layers(rt: LibcRuntime) -> Result<(), Fail> {
     let bytes = bit_map(rt.alloc(), 20, &[TOP])?;
     let file = BitFile::over(&bytes);
-    check_step(&Inverted::new(file), Step { low: 1, at: TOP, high: 0 })?;
-    check_flipped(&file, Step { low: 1, at: 1, high: 0 })?;
-    check_mounted(&file, 0, true, Step { low: 0, at: TOP, high: 1 })
+    check_step(
+        &Inverted::new(file),
+        Step {
+            low: 1,
+            at: TOP,
+            high: 0,
+        },
+    )?;
+    check_flipped(
+        &file,
+        Step {
+            low: 1,
+            at: 1,
+            high: 0,
+        },
+    )?;
+    check_mounted(
+        &file,
+        0,
+        true,
+        Step {
+            low: 0,
+            at: TOP,
+            high: 1,
+        },
+    )
 }
 
 // One pin, mounted at the top and at the bottom of 20 pins.
@@ -163,6 +191,24 @@ fn layers(rt: LibcRuntime) -> Result<(), Fail> {
 fn mounts(rt: LibcRuntime) -> Result<(), Fail> {
     let bytes = bit_map(rt.alloc(), 1, &[1])?;
     let file = BitFile::over(&bytes);
-    check_mounted(&file, TOP / 2, false, Step { low: 0, at: TOP, high: 1 })?;
-    check_mounted(&file, 0, true, Step { low: 0, at: 1, high: 1 })
+    check_mounted(
+        &file,
+        TOP / 2,
+        false,
+        Step {
+            low: 0,
+            at: TOP,
+            high: 1,
+        },
+    )?;
+    check_mounted(
+        &file,
+        0,
+        true,
+        Step {
+            low: 0,
+            at: 1,
+            high: 1,
+        },
+    )
 }

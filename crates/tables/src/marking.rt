@@ -11,12 +11,10 @@ use model::Branch;
 use model::Node;
 
 // Writes 0 into each entry.
-pub fn clear(entries: &mut [u32])
+pub(crate) fn clear(entries: &mut [u32])
     ensures { λ _. ⌜ ((i : ℕ) → getD (now (entries .exit)) i 0 ≡ 0) ⌝ }
 {
-    for x in entries.iter_mut() {
-        *x = 0;
-    }
+    entries.fill(0);
 }
 
 // Marks what is reached from a branch whose places are `place` and later, but is not marked yet.

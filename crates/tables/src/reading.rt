@@ -20,10 +20,10 @@ pub fn same_branch(a: Branch, b: Branch) -> bool
 }
 
 // Whether two nodes are alike.
-pub fn same_node(a: Node, b: Node) -> bool
-    ensures { λ r. ⌜ Decides r (a ≡ b) ⌝ }
+pub(crate) fn same_node(node: Node, other: Node) -> bool
+    ensures { λ r. ⌜ Decides r (node ≡ other) ⌝ }
 {
-    a == b
+    node == other
 }
 
 // The node of that number: blank past the end of the table.

@@ -14,5 +14,5 @@ returns-in-Err c =
     let e = c .in-Err .ensures tt in
     record {
       value = c .blank-file .ensures ∙ sym (ap (λ o. cond (is-none o) (c .args .bytes .now) (blank k)) e);
-      good = subst (λ (bs : List ℕ). fault k bs ≡ None) (sym (c .blank-file .ensures)) (blank-good k)
+      good = subst (λ (bs : List ℕ). fault k bs ≡ None) (sym (c .blank-file .ensures)) (blank-good k);
     }

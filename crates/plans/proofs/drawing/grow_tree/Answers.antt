@@ -12,4 +12,4 @@ pub returns : need.returns
 returns c =
     let h = c .args .header .now in
     λ f built. subst (λ (order : List ℕ). Draws-root (c .args .tree) (c .args .records .now) order (c .args .nodes .now) (c .args .work .now) (h .pins) (roots (h .lines)) (c .draw-root .last .nodes) (c .draw-root .result))
-      (c .order .ensures) (c .draw-root .ensures) f built (order-length h) (subst (λ (n : ℕ). Order n (order-of h)) (order-length h) (order-names h))
+    (c .order .ensures) (c .draw-root .ensures) f built (order-length h) (subst (λ (n : ℕ). Order n (order-of h)) (order-length h) (order-names h))

@@ -1,22 +1,15 @@
-use mathlib.Core.Logic.{_≢_, inl, inr}
-use Prim.Native.Nat.{_<_}
+use mathlib.Core.Path.{_≡_, ap, _∙_}
+use mathlib.Core.Logic.{inl, inr}
+use Prim.Native.Nat.{ℕ, _<_}
 use native.Mathlib.Omega.{arith}
-use borrow.Author.Count.{below-more}
-use lib.ListN.{length}
-use lib.Seq.{getD-set-same, getD-set-other}
-use Rattle.std.proofs.shelf.Lists.{getD-past}
+use lib.ListN.{length, getD, replicate}
+use Rattle.std.proofs.shelf.Lists.{getD-replicate, getD-past}
 use Rattle.std.proofs.shelf.Tests.{cases-lt}
 use Rattle.tables.proofs.marking.clear.Needs as need
 
-pub loop-x-again : need.loop-x-again
-loop-x-again c =
-    below-more _ _
-    (λ k h. let ne : k ≢ c .loop-x .x-index = omega arith in rw getD-set-other (c .loop-x .inv k h))
-    (let lt : c .loop-x .x-index < length (c .loop-x .entries) = omega arith in rw getD-set-same)
-
 pub returns : need.returns
 returns c i =
-    elim (cases-lt i (c .loop-x .x-index)) [
-      | inl l ↦ c .loop-x .inv i l
-      | inr g ↦ getD-past (c .loop-x .entries) i 0 (omega arith)
+    elim (cases-lt i (length (c .args .entries .now))) [
+      | inl l ↦ ap (λ xs. getD xs i 0) (c .fill .ensures .after (λ y h. h)) ∙ getD-replicate (length (c .args .entries .now)) i 0 0 l
+      | inr g ↦ getD-past (c .fill .last .self) i 0 (omega arith)
     ]

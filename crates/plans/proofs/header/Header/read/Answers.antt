@@ -18,7 +18,7 @@ returns-in-Break-root c =
     let q = err-from-errBy (c .from-residual-in-Break-root .result) (c .from-residual-in-Break-root .ensures .1) in
     rw (q .1, q .2) (record {
       turned = λ p heads f t. not-turned h p heads (λ n size. read-refusal n size d a (length nodes)) clear f t;
-      tells = λ p o. read-empty h nodes p o d a (length nodes) clear _ (e .0) (e .1)
+      tells = λ p o. read-empty h nodes p o d a (length nodes) clear _ (e .0) (e .1);
     })
 
 pub returns : need.returns
@@ -31,5 +31,5 @@ returns c =
     record {
       turned = λ p heads f t. not-turned h p heads (λ n size. read-refusal n size d a (length nodes)) clear f t;
       tells = λ p o. read-held h nodes p o d a (length nodes) clear (c .in-Continue-root .root) _ (c .in-Continue-root .ensures tt)
-          (read-order h nodes (c .in-Continue-root .root) a (c .order .result .now) (c .read .result) (c .order .ensures) (c .read .ensures))
+          (read-order h nodes (c .in-Continue-root .root) a (c .order .result .now) (c .read .result) (c .order .ensures) (c .read .ensures));
     }

@@ -17,7 +17,7 @@ returns-in-Break-root c =
     let q = err-from-errBy (c .from-residual-in-Break-root .result) (c .from-residual-in-Break-root .ensures .1) in
     rw (q .1, q .2) (record {
       turned = λ p heads f t. not-turned h p heads (λ n size. count-refusal n size d (length nodes) work) clear f t;
-      tells = λ p o. count-empty h nodes p o d (length nodes) work clear _ (e .0) (e .1)
+      tells = λ p o. count-empty h nodes p o d (length nodes) work clear _ (e .0) (e .1);
     })
 
 pub returns : need.returns
@@ -29,5 +29,5 @@ returns c =
     let clear = c .in-Continue-check-held .ensures tt in
     record {
       turned = λ p heads f t. not-turned h p heads (λ n size. count-refusal n size d (length nodes) work) clear f t;
-      tells = λ p o. count-held h nodes p o d (length nodes) work clear (c .in-Continue-root .root) (c .reached-count .result) (c .in-Continue-root .ensures tt) (c .reached-count .ensures)
+      tells = λ p o. count-held h nodes p o d (length nodes) work clear (c .in-Continue-root .root) (c .reached-count .result) (c .in-Continue-root .ensures tt) (c .reached-count .ensures);
     }
