@@ -12,7 +12,7 @@ use Rattle.std.proofs.shelf.Tests.{both-ways, cases-bool}
 use Rattle.std.proofs.shelf.Ways.{eqb-tells}
 use Rattle.std.specs.declared.option.Option.{Option}
 use Rattle.std.specs.declared.option.Option.the-variants.{Some, None}
-use Rattle.trees.specs.Pins.{pin}
+use Rattle.model.specs.Selections.{pin}
 use Rattle.trees.specs.Left.{Agrees, One-left, Two-left, Left}
 
 -- a low bit is that of the remainder

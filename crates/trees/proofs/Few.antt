@@ -12,7 +12,8 @@ use Rattle.std.proofs.shelf.Bits.{pow-add, div-mul-add, mul-add-lt}
 use Rattle.std.proofs.shelf.Lists.{length-append, length-map}
 use Rattle.std.proofs.shelf.Tests.{both-ways, cases-bool, cond-true, cond-false}
 use Rattle.std.proofs.shelf.Ways.{eqb-tells}
-use Rattle.trees.specs.Mixed.{mixed, mixed-blocks, In}
+use Rattle.model.specs.Lists.{In}
+use Rattle.trees.specs.Mixed.{mixed, mixed-blocks}
 use Rattle.trees.specs.Growth.{alone}
 use Rattle.trees.specs.Records.{divided, records}
 use Rattle.trees.specs.Theorems.{Changes-in}

@@ -11,7 +11,7 @@ use Rattle.std.proofs.shelf.Bits.{pow-pos, pow-add, pow-below, shl-shr, or-shr,
 use Rattle.std.proofs.shelf.Tests.{both-ways}
 use Rattle.std.proofs.shelf.Ways.{eqb-tells, leb-tells}
 use Rattle.std.specs.declared.option.Option.the-variants.{Some}
-use Rattle.trees.specs.Pins.{pin}
+use Rattle.model.specs.Selections.{pin}
 use Rattle.trees.specs.Left.{Agrees, One-left, Left}
 use Rattle.trees.proofs.Agree.{pin-mod, pin-tail, pin-top, put, put-split, value-agrees}
 

@@ -11,7 +11,8 @@ use Rattle.std.proofs.shelf.Lists.{length-map, getD-map}
 use Rattle.std.proofs.shelf.Tests.{cases-bool}
 use Rattle.sources.specs.Blocks.{Inside, Differing}
 use Rattle.trees.specs.declared.tree.Record.{Record}
-use Rattle.trees.specs.Mixed.{mixed, Block, mixed-block, mixed-blocks, In}
+use Rattle.model.specs.Lists.{In}
+use Rattle.trees.specs.Mixed.{mixed, Block, mixed-block, mixed-blocks}
 use Rattle.trees.specs.Records.{place, half, divided, records}
 use Rattle.trees.specs.Growth.{fresh, record-at}
 use Rattle.trees.specs.Theorems.{Recorded, Means, Divides, block-of}

@@ -12,7 +12,8 @@ use Rattle.std.specs.shelf.Lists.{All, joined, kept-by}
 use Rattle.std.proofs.shelf.Elements.{all-getD, all-append, all-kept-by, all-weaker}
 use Rattle.std.proofs.shelf.Tests.{eq-eqb, ne-eqb, and-from, and-left, and-right, cases-bool, cond-true, cond-false}
 use Rattle.std.proofs.shelf.Ways.{eqb-tells}
-use Rattle.trees.specs.Mixed.{mixed, Block, mixed-block, level, blocks, mixed-blocks, In, Before, Ordered}
+use Rattle.model.specs.Lists.{In}
+use Rattle.trees.specs.Mixed.{mixed, Block, mixed-block, level, blocks, mixed-blocks, Before, Ordered}
 use Rattle.trees.specs.Records.{same-block, place}
 
 -- membership

@@ -19,7 +19,7 @@ use Rattle.trees.specs.declared.tree.Half.the-variants.{Code, Split}
 use Rattle.trees.specs.declared.tree.Record.{Record}
 use Rattle.trees.specs.declared.tree.Tree.{Tree}
 use Rattle.trees.specs.Mixed.{differs, mixed, mixed-blocks}
-use Rattle.trees.specs.Pins.{pin}
+use Rattle.model.specs.Selections.{pin}
 use Rattle.trees.specs.Left.{Two-left, Left}
 use Rattle.trees.specs.Records.{place, half, divided, records, Built}
 use Rattle.trees.specs.Growth.{fresh, record-at}

@@ -4,7 +4,7 @@ use mathlib.Core.Bool.{true}
 use Prim.Native.Nat.{ℕ, _^_, _<_}
 use Rattle.std.specs.declared.option.Option.{Option}
 use Rattle.std.specs.declared.option.Option.the-variants.{Some, None}
-use Rattle.trees.specs.Pins.{pin}
+use Rattle.model.specs.Selections.{pin}
 
 -- address a has the pins in mask as value has them
 abbrev pub Agrees : (n mask value a : ℕ) → Type 0

@@ -1,5 +1,4 @@
 pub mod Mixed
-pub mod Pins
 pub mod Left
 pub mod Records
 pub mod Growth

@@ -46,10 +46,6 @@ blocks n = joined level (counting 0 n)
 unfoldable pub mixed-blocks : ℕ → (ℕ → ℕ) → List Block
 mixed-blocks n c = kept-by (mixed-block n c) (blocks n)
 
-abbrev pub In : {X : Type 0} → X → List X → Type 0
-In x [] = ⊥
-In x (y ∷ ys) = (x ≡ y) ⊎ In x ys
-
 -- of a lower level, or before it on its level
 abbrev pub Before : Block → Block → Type 0
 Before a b = (a .0 < b .0) ⊎ ((a .0 ≡ b .0) × (a .1 < b .1))

@@ -10,7 +10,8 @@ use Rattle.sources.specs.Blocks.{Uniform, Differing}
 use Rattle.trees.specs.declared.tree.Half.{Half}
 use Rattle.trees.specs.declared.tree.Half.the-variants.{Code, Split}
 use Rattle.trees.specs.declared.tree.Record.{Record}
-use Rattle.trees.specs.Mixed.{Block, mixed-blocks, In, Ordered}
+use Rattle.model.specs.Lists.{In}
+use Rattle.trees.specs.Mixed.{Block, mixed-blocks, Ordered}
 use Rattle.trees.specs.Records.{half, records}
 use Rattle.trees.specs.Growth.{record-at}
 use Rattle.trees.specs.Left.{Left}
