@@ -7,4 +7,7 @@ pub mod Comparings
 pub mod Rebuilding
 pub mod Erasings
 pub mod Growings
+pub mod Changing
 pub mod Drawings
+pub mod Strappings
+pub mod Joinings

@@ -6,9 +6,12 @@ use mathlib.Core.List.{List, [], _∷_}
 use Prim.Native.Nat.{ℕ, zero, suc, _+_, _<_, _≤_}
 use native.Mathlib.Numerals.{add-one}
 use native.Mathlib.Omega.{arith}
-use borrow.Author.Tests.{le-ltb, lt-leb, ne-eqb}
+use borrow.Author.Tests.{le-ltb, lt-leb, ne-eqb, eq-eqb}
+use native.Mathlib.Nat.{zero-add}
+use lib.Seq.{drop-cons}
+use Rattle.std.proofs.shelf.Lists.{drop-all}
 use lib.Dec.{eqb, leb}
-use lib.ListN.{length, getD}
+use lib.ListN.{length, getD, drop}
 use Rattle.std.proofs.shelf.Ways.{eqb-tells, leb-tells, tells}
 use Rattle.std.specs.declared.option.Option.{Option}
 use Rattle.std.specs.declared.option.Option.the-variants.{Some, None}
@@ -16,7 +19,7 @@ use Rattle.faults.specs.declared.fault.Fault.{Fault}
 use Rattle.faults.specs.declared.fault.Ground.the-variants.{OrderPin}
 use Rattle.faults.specs.Refusals.{at, refuse-if, or-else, is-none}
 use Rattle.model.specs.Lists.{In, Apart}
-use Rattle.model.specs.Orders.{Order}
+use Rattle.model.specs.Orders.{Order, place-in}
 use Rattle.plans.specs.Orders.{among, misplaced, misplaced-below, Orders-told}
 use Rattle.plans.specs.Plain.{make-told}
 
@@ -125,3 +128,28 @@ pub orders-told : Orders-told
 unfolding Distinct
 orders-told order =
     (is-order order, λ o. each-none order (length order) (λ i h. placed-at order i (o .small (getD order i 0) (at-in order i h)) (among-none order (getD order i 0) i (λ j l q. apart-distinct order (o .once) j i l h q))))
+
+-- the place of a pin, sought from the front
+pub place-begins : (order : List ℕ) (p : ℕ) → place-in order p ≡ 0 + place-in (drop 0 order) p
+place-begins order p = sym (zero-add (place-in order p))
+
+module _ (order : List ℕ) (p i : ℕ) (l : i < length order) where
+  here : drop i order ≡ getD order i 0 ∷ drop (i + 1) order
+  here = drop-cons order i 0 l ∙ ap (λ x. getD order i 0 ∷ drop x order) (sym (add-one i))
+
+  pub place-more : (getD order i 0 ≡ p → ⊥) → place-in order p ≡ i + place-in (drop i order) p → place-in order p ≡ i + 1 + place-in (drop (i + 1) order) p
+  place-more ne e =
+      let q : place-in (drop i order) p ≡ suc (place-in (drop (i + 1) order) p) =
+          ap (λ ps. place-in ps p) here ∙ ap (λ b. cond b 0 (suc (place-in (drop (i + 1) order) p))) (ne-eqb p (getD order i 0) (λ z. ne (sym z))) in
+      omega arith
+
+  pub place-here : getD order i 0 ≡ p → place-in order p ≡ i + place-in (drop i order) p → i ≡ place-in order p
+  place-here y e =
+      let q : place-in (drop i order) p ≡ 0 =
+          ap (λ ps. place-in ps p) here ∙ ap (λ b. cond b 0 (suc (place-in (drop (i + 1) order) p))) (eq-eqb p (getD order i 0) (sym y)) in
+      omega arith
+
+pub place-none : (order : List ℕ) (p i : ℕ) → length order ≤ i → place-in order p ≡ i + place-in (drop i order) p → i ≤ length order → length order ≡ place-in order p
+place-none order p i l e h =
+    let q : place-in (drop i order) p ≡ 0 = ap (λ ps. place-in ps p) (drop-all i order l) in
+    omega arith

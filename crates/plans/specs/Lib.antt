@@ -4,3 +4,4 @@ pub mod Plain
 pub mod Reaching
 pub mod Holding
 pub mod Settling
+pub mod Decoding

@@ -2,6 +2,8 @@
 pub mod asking;
 mod checks;
 pub mod drawing;
+pub mod strapping;
+pub mod joining;
 pub mod erasing;
 pub mod header;
 pub mod laws;

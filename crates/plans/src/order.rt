@@ -1,6 +1,7 @@
 ghost use mathlib.Core.Path.{_≡_};
 ghost use Prim.Native.Nat.{_<_, _≤_};
 ghost use lib.ListN.{length, take};
+ghost use Rattle.model.specs.Orders.{place-in};
 ghost use Rattle.plans.specs.Orders.{among, misplaced, misplaced-below};
 ghost use Rattle.plans.specs.Results.{refusal};
 use faults::fault::Fault;
@@ -48,4 +49,17 @@ pub(crate) fn padded(order: &[u8]) -> [u8; 20]
         room[i] = order[i];
     }
     room
+}
+
+// The place of a pin in an order; past its end if it is not there.
+pub(crate) fn place_of_pin(order: &[u8], pin: u8) -> u8
+    requires { ⌜ length (now order) ≤ 20 ⌝ }
+    ensures { λ r. ⌜ r ≡ place-in (now (order .entry)) pin ⌝ }
+{
+    for i in 0..order.len() {
+        if order[i] == pin {
+            return i as u8;
+        }
+    }
+    order.len() as u8
 }

@@ -7,7 +7,8 @@ use Rattle.std.specs.declared.option.Option.the-variants.{None}
 use Rattle.trees.specs.Mixed.{codes}
 use Rattle.trees.specs.Records.{Built}
 use Rattle.plans.specs.Plain.{draw, input-refusal}
-use Rattle.plans.proofs.Drawings.{turned-draw, draw-taken, draw-tree-full, drawn, draw-pins, draw-line, draw-nodes, draw-work, work-enough}
+use Rattle.plans.proofs.Drawings.{turned-draw, draw-taken, draw-tree-full, drawn, draw-pins, draw-line, draw-nodes, draw-work}
+use Rattle.plans.proofs.Changing.{work-enough}
 use Rattle.plans.proofs.open.OpenPlan.draw.Needs as need
 
 pub returns-in-Break-check-draw : need.returns-in-Break-check-draw
