@@ -93,7 +93,7 @@ pub grown-beside : (h : Header) (nodes : List Node) (p : Plain) (o : Holds h nod
     → (t u : Tree) → t ≡ u → Grows (h .pins) nodes ws (roots (h .lines)) t nodes′ root → Grew (pins p) nodes (held (roots (h .lines))) u nodes′ root
 grown-beside h nodes p o ws nodes′ root enough t u e grows =
     let g : Grows (pins p) nodes ws (roots (h .lines)) u nodes′ root =
-        subst (λ (z : Tree). Grows (pins p) nodes ws (roots (h .lines)) z nodes′ root) e (subst (λ (k : ℕ). Grows k nodes ws (roots (h .lines)) t nodes′ root) (sym (heads-pins h p (o .heads))) grows) in
+    subst (λ (z : Tree). Grows (pins p) nodes ws (roots (h .lines)) z nodes′ root) e (subst (λ (k : ℕ). Grows k nodes ws (roots (h .lines)) t nodes′ root) (sym (heads-pins h p (o .heads))) grows) in
     let few = h .sized in
     let s = o .heads .size in
     let w = o .whole in
@@ -104,13 +104,13 @@ module _ (h : Header) (nodes : List Node) (c : Call) (d : ℕ) (clear : None ≡
   settled-call (Some b) r h′ s each =
       subst (λ (x : Result (Unit {0}) Fault). Did h nodes c x h′ nodes′) (sym (s .0))
       (accepted-did h nodes c h′ nodes′ clear
-        (λ p o. let w = each p o in w .tells ∙ ap (λ t. refuse-if t (at Parts (p .size)) None) (few-enough h nodes p o d small vacant (w .new) nodes′ b (w .grew) h′ (s .1)))
-        (λ p o. let w = each p o in subst (λ (q : Plain). Holds h′ nodes′ q) (sym (w .puts)) (holds-new h nodes p o d small vacant (w .new) nodes′ b (w .grew) h′ (s .1)))
-        (λ p o. let w = each p o in stands h nodes p o d small vacant (w .new) nodes′ (w .grew)))
+      (λ p o. let w = each p o in w .tells ∙ ap (λ t. refuse-if t (at Parts (p .size)) None) (few-enough h nodes p o d small vacant (w .new) nodes′ b (w .grew) h′ (s .1)))
+      (λ p o. let w = each p o in subst (λ (q : Plain). Holds h′ nodes′ q) (sym (w .puts)) (holds-new h nodes p o d small vacant (w .new) nodes′ b (w .grew) h′ (s .1)))
+      (λ p o. let w = each p o in stands h nodes p o d small vacant (w .new) nodes′ (w .grew)))
   settled-call None r h′ s each =
       subst (λ (x : Header). Did h nodes c r x nodes′) (sym (s .1))
       (subst (λ (x : Result (Unit {0}) Fault). Did h nodes c x h nodes′) (sym (s .0))
-        (state-did h nodes nodes′ c (at Parts (h .size)) clear
-          (λ p o. let w = each p o in w .tells ∙ ap (λ t. refuse-if t (at Parts (p .size)) None) (too-many h nodes p o d small vacant (w .new) nodes′ (w .grew)) ∙ ap (λ z. Some (at Parts z)) (o .heads .size))
-          (λ p o. let w = each p o in kept-holds h nodes p o nodes′ (w .new) d small vacant (w .grew))
-          (λ p o. let w = each p o in stands h nodes p o d small vacant (w .new) nodes′ (w .grew))))
+      (state-did h nodes nodes′ c (at Parts (h .size)) clear
+      (λ p o. let w = each p o in w .tells ∙ ap (λ t. refuse-if t (at Parts (p .size)) None) (too-many h nodes p o d small vacant (w .new) nodes′ (w .grew)) ∙ ap (λ z. Some (at Parts z)) (o .heads .size))
+      (λ p o. let w = each p o in kept-holds h nodes p o nodes′ (w .new) d small vacant (w .grew))
+      (λ p o. let w = each p o in stands h nodes p o d small vacant (w .new) nodes′ (w .grew))))

@@ -59,8 +59,8 @@ decoded-below : (decoding : ℕ → Bool) (k : ℕ) (f : Selection) → undecode
 decoded-below decoding zero f e x l = absurd (omega arith)
 decoded-below decoding (suc k) f e x l =
     elim (eqb-tells x k) [
-      inl t ↦ ap (λ z. decoding (f z)) (t .1) ∙ first (decoding (f k)) (undecoded decoding k f) e
-    | inr t ↦ decoded-below decoding k f (rest (decoding (f k)) (undecoded decoding k f) e) x (omega (arith, t .1))
+      | inl t ↦ ap (λ z. decoding (f z)) (t .1) ∙ first (decoding (f k)) (undecoded decoding k f) e
+      | inr t ↦ decoded-below decoding k f (rest (decoding (f k)) (undecoded decoding k f) e) x (omega (arith, t .1))
     ]
   where
     first : (p q : Bool) → (not p || q) ≡ false → p ≡ true
@@ -169,8 +169,8 @@ module _ (h : Header) (nodes : List Node) (decoding : ℕ → Bool) (g : ℕ →
         join-undecoded-left f check =
             state-did h nodes nodes call f clear
             (λ p o. let t = told-true (undecoded decoding (2 ^ pins p) (fa p o)) f (at Undecoded a) (checked p o a left x held-a (fa p o) (means-a p o) (Err f) check) in
-              both-held p o None (empty-line h nodes p o d to vacant)
-              ∙ ap (λ u. after-codes p u (undecoded decoding (2 ^ pins p) (fb p o)) (too-many-parts p d (Some (joined g (fa p o) (fb p o))) None)) (t .0) ∙ ap Some (sym (t .1)))
+            both-held p o None (empty-line h nodes p o d to vacant)
+            ∙ ap (λ u. after-codes p u (undecoded decoding (2 ^ pins p) (fb p o)) (too-many-parts p d (Some (joined g (fa p o) (fb p o))) None)) (t .0) ∙ ap Some (sym (t .1)))
             (λ p o. o) (λ p o i r. refl)
 
         module _ (u : Unit {0}) (good-a : Checks decoding (h .pins) nodes x a (Ok u)) where
@@ -181,8 +181,8 @@ module _ (h : Header) (nodes : List Node) (decoding : ℕ → Bool) (g : ℕ →
           join-undecoded-right f check =
               state-did h nodes nodes call f clear
               (λ p o. let t = told-true (undecoded decoding (2 ^ pins p) (fb p o)) f (at Undecoded b) (checked p o b right y held-b (fb p o) (means-b p o) (Err f) check) in
-                both-held p o None (empty-line h nodes p o d to vacant)
-                ∙ ap₂ (λ u v. after-codes p u v (too-many-parts p d (Some (joined g (fa p o) (fb p o))) None)) (clean-a p o) (t .0) ∙ ap Some (sym (t .1)))
+              both-held p o None (empty-line h nodes p o d to vacant)
+              ∙ ap₂ (λ u v. after-codes p u v (too-many-parts p d (Some (joined g (fa p o) (fb p o))) None)) (clean-a p o) (t .0) ∙ ap Some (sym (t .1)))
               (λ p o. o) (λ p o i r. refl)
 
           pub joined-line : (v : Unit {0}) → Checks decoding (h .pins) nodes y b (Ok v) → (nodes′ : List Node) (ws : List ℕ) → length ws ≡ work → (root : Option Branch) (r : Result (Unit {0}) Fault) (h′ : Header)
@@ -193,10 +193,10 @@ module _ (h : Header) (nodes : List Node) (decoding : ℕ → Bool) (g : ℕ →
               (λ p o. record {
                 new = joined g (fa p o) (fb p o);
                 tells = both-held p o None (empty-line h nodes p o d to vacant)
-                  ∙ ap₂ (λ u v. after-codes p u v (too-many-parts p d (Some (joined g (fa p o) (fb p o))) None)) (clean-a p o) (told-false (undecoded decoding (2 ^ pins p) (fb p o)) (at Undecoded b) (checked p o b right y held-b (fb p o) (means-b p o) (Ok v) good-b));
+                    ∙ ap₂ (λ u v. after-codes p u v (too-many-parts p d (Some (joined g (fa p o) (fb p o))) None)) (clean-a p o) (told-false (undecoded decoding (2 ^ pins p) (fb p o)) (at Undecoded b) (checked p o b right y held-b (fb p o) (means-b p o) (Ok v) good-b));
                 puts = ap₂ (λ k l. with-line p d (join-lines g k l)) (held-line h nodes p o a left x held-a .1) (held-line h nodes p o b right y held-b .1);
                 grew = grown-beside h nodes p o ws nodes′ root enough (join-trees g (tree (listed nodes) (h .pins) 0 x) (tree (listed nodes) (h .pins) 0 y)) (view-of (pins p) (p .order) (joined g (fa p o) (fb p o)))
-                  (same p o) (grows (root-stands h nodes p o a left x held-a) (root-stands h nodes p o b right y held-b))
+                    (same p o) (grows (root-stands h nodes p o a left x held-a) (root-stands h nodes p o b right y held-b));
               })
             where
               enough : 3 * length nodes + 2 ≤ length ws

@@ -140,13 +140,13 @@ module _ (order : List ℕ) (p i : ℕ) (l : i < length order) where
   pub place-more : (getD order i 0 ≡ p → ⊥) → place-in order p ≡ i + place-in (drop i order) p → place-in order p ≡ i + 1 + place-in (drop (i + 1) order) p
   place-more ne e =
       let q : place-in (drop i order) p ≡ suc (place-in (drop (i + 1) order) p) =
-          ap (λ ps. place-in ps p) here ∙ ap (λ b. cond b 0 (suc (place-in (drop (i + 1) order) p))) (ne-eqb p (getD order i 0) (λ z. ne (sym z))) in
+      ap (λ ps. place-in ps p) here ∙ ap (λ b. cond b 0 (suc (place-in (drop (i + 1) order) p))) (ne-eqb p (getD order i 0) (λ z. ne (sym z))) in
       omega arith
 
   pub place-here : getD order i 0 ≡ p → place-in order p ≡ i + place-in (drop i order) p → i ≡ place-in order p
   place-here y e =
       let q : place-in (drop i order) p ≡ 0 =
-          ap (λ ps. place-in ps p) here ∙ ap (λ b. cond b 0 (suc (place-in (drop (i + 1) order) p))) (eq-eqb p (getD order i 0) (sym y)) in
+      ap (λ ps. place-in ps p) here ∙ ap (λ b. cond b 0 (suc (place-in (drop (i + 1) order) p))) (eq-eqb p (getD order i 0) (sym y)) in
       omega arith
 
 pub place-none : (order : List ℕ) (p i : ℕ) → length order ≤ i → place-in order p ≡ i + place-in (drop i order) p → i ≤ length order → length order ≡ place-in order p

@@ -81,14 +81,14 @@ module _ (h : Header) (nodes : List Node) (a pin : ℕ) (high : Bool) (d work : 
     strapped-line vacant nodes′ ws long root r h′ grows s =
         settled-call h nodes call d clear to vacant nodes′ root r h′ s
         (λ p o. let f = held-line h nodes p o a from b held-a .0 in
-          let e = held-line h nodes p o a from b held-a .1 in
-          record {
-            new = strapped (pins p) pin high f;
-            tells = ap (λ l. grounds p l (line p d)) e ∙ ap (λ l. grounds p (Some f) l) (empty-line h nodes p o d to vacant);
-            puts = ap (λ l. with-line p d (strap-line (pins p) pin high l)) e;
-            grew = grown-beside h nodes p o ws nodes′ root enough (strap-tree (place-in (order-of h) pin) high (tree (listed nodes) (h .pins) 0 b)) (view-of (pins p) (p .order) (strapped (pins p) pin high f))
-              (same p o) (grows (root-stands h nodes p o a from b held-a))
-          })
+        let e = held-line h nodes p o a from b held-a .1 in
+        record {
+          new = strapped (pins p) pin high f;
+          tells = ap (λ l. grounds p l (line p d)) e ∙ ap (λ l. grounds p (Some f) l) (empty-line h nodes p o d to vacant);
+          puts = ap (λ l. with-line p d (strap-line (pins p) pin high l)) e;
+          grew = grown-beside h nodes p o ws nodes′ root enough (strap-tree (place-in (order-of h) pin) high (tree (listed nodes) (h .pins) 0 b)) (view-of (pins p) (p .order) (strapped (pins p) pin high f))
+              (same p o) (grows (root-stands h nodes p o a from b held-a));
+        })
       where
         enough : 3 * length nodes + 2 ≤ length ws
         enough =

@@ -2,12 +2,12 @@
 pub mod asking;
 mod checks;
 pub mod drawing;
-pub mod strapping;
-pub mod joining;
 pub mod erasing;
 pub mod header;
+pub mod joining;
 pub mod laws;
 pub mod making;
 pub mod open;
 mod order;
 mod settling;
+pub mod strapping;

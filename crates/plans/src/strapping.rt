@@ -24,7 +24,14 @@ use model::Branch;
 use model::Node;
 
 // What a strap asks of its arguments.
-fn check_strap(header: &Header, a: u8, pin: u8, d: u8, nodes: usize, work: usize) -> Result<(), Fault>
+fn check_strap(
+    header: &Header,
+    a: u8,
+    pin: u8,
+    d: u8,
+    nodes: usize,
+    work: usize,
+) -> Result<(), Fault>
     ensures { λ r. ⌜ ((high : Bool) → refusal r ≡ input-refusal (now (header .entry) .pins) (now (header .entry) .size) (strap a pin high d nodes work)) ⌝ }
 {
     check_line(a)?;
