@@ -1,3 +1,4 @@
+#![tactic(auto)]
 // Times draws on a plan. With the word `run` it prints a row for each map and order.
 use faults::fault::Fault;
 use map_tests::building::bit_map;

@@ -61,7 +61,7 @@ impl End for Setting {
         let below : nat_lt (e.chip * 8 + e.waits) 128 ≡ Bool.true = lt-ltb _ _ (omega arith) in
         let q : (e.chip * 8 + e.waits) / 8 % 16 ≡ e.chip = omega (arith, div-mul-add e.chip 8 e.waits e.short) in
         let r : (e.chip * 8 + e.waits) % 8 ≡ e.waits = mod-mul-add e.chip 8 e.waits e.short in
-        simp below (ap Some (same-setting _ _ _ _ _ _ _ _ q r)) };
+        simp below (ap Some (same_setting _ _ _ _ _ _ _ _ q r)) };
 
     ghost only = { first_of (Prim.search rules, Prim.grind (arith, Self.row.coded.inj)) };
 

@@ -1,3 +1,4 @@
+#![tactic(auto)]
 // End kinds with their codes, and joinings of two ends into one.
 pub mod end;
 pub mod joining;

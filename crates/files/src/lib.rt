@@ -1,3 +1,4 @@
+#![tactic(auto)]
 // Map files in three formats: their fields, the first fault of bytes that are read as one, and what accepted bytes mean.
 pub mod accept;
 pub mod fields;

@@ -11,7 +11,7 @@ use tables::reading::{code_of, is_end, same_branch, step};
 
 // The code that the joining gives the codes of two branches; 0 where its kind does not decode both.
 fn joined_code<J: Joining>(joining: &J, a: Branch, b: Branch) -> u16
-    ensures { result ≡ code_join Of-as-End.decoded Of-as-End.code J.Joining.joined (code a) (code b) }
+    ensures { result ≡ code_join J.Of.End.decoded J.Of.End.code J.Joining.joined (code a) (code b) }
 {
     match join_codes(joining, code_of(a), code_of(b)) {
         Some(c) => c,
@@ -30,7 +30,7 @@ pub fn apply<J: Joining>(
     a: Branch,
     b: Branch,
 ) -> Option<Branch>
-    ensures { JoinsTo (code_join Of-as-End.decoded Of-as-End.code J.Joining.joined) pins place a b nodes.old marks.old index.old nodes.new marks.new index.new result }
+    ensures { JoinsTo (code_join J.Of.End.decoded J.Of.End.code J.Joining.joined) pins place a b nodes.old marks.old index.old nodes.new marks.new index.new result }
 {
     if place >= pins {
         return Some(Branch::End(joined_code(joining, a, b)));

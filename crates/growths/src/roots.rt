@@ -24,7 +24,7 @@ pub fn join_roots<J: Joining>(
     left: Branch,
     right: Branch,
 ) -> Option<Branch>
-    ensures { In left (held (roots lines.now)) → In right (held (roots lines.now)) → Grows pins nodes.old work.old (roots lines.now) (join (code_join Of-as-End.decoded Of-as-End.code J.Joining.joined) (tree (listed nodes.old) pins 0 left) (tree (listed nodes.old) pins 0 right)) nodes.new result }
+    ensures { In left (held (roots lines.now)) → In right (held (roots lines.now)) → Grows pins nodes.old work.old (roots lines.now) (join (code_join J.Of.End.decoded J.Of.End.code J.Joining.joined) (tree (listed nodes.old) pins 0 left) (tree (listed nodes.old) pins 0 right)) nodes.new result }
 {
     let (marks, index) = prepare(nodes, work, pins, lines);
     apply(joining, nodes, marks, index, pins, 0, left, right)

@@ -1,3 +1,4 @@
+#![tactic(auto)]
 // Tests of listings, to the byte.
 #[cfg(test)]
 mod bench;

@@ -1,3 +1,4 @@
+#![tactic(auto)]
 // Listings: the nodes that lines reach in the order of a listing, and the bytes.
 mod fronts;
 mod labels;

@@ -1,3 +1,4 @@
+#![tactic(auto)]
 // Tests of map files: what is accepted, what is refused and why, and what files mean.
 pub mod building;
 #[cfg(test)]

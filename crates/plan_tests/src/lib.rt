@@ -1,3 +1,4 @@
+#![tactic(auto)]
 // Tests of plans: rows of calls, held to truth tables after every call.
 #[cfg(test)]
 mod bench;

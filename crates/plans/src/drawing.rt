@@ -61,7 +61,7 @@ impl OpenPlan {
         records: &mut [Record],
         work: &mut [u32],
     ) -> Result<(), Fault>
-        ensures { Did self.old.header nodes.old (draw line (S.Source.width source.now) (codes Of-as-End.code (S.Source.selection source.now)) (length nodes.old) (length records.old) (length work.old)) result self.new.header nodes.new }
+        ensures { Did self.old.header nodes.old (draw line (S.Source.width source.now) (codes S.Of.End.code (S.Source.selection source.now)) (length nodes.old) (length records.old) (length work.old)) result self.new.header nodes.new }
     {
         check_draw(&self.header, source.pins(), line, nodes.len(), work.len())?;
         check_vacant(&self.header, line)?;

@@ -59,7 +59,7 @@ fn grow_join<J: Joining>(
     nodes: &mut [Node],
     work: &mut [u32],
 ) -> Option<Branch>
-    ensures { In left (held (roots header.now.lines)) → In right (held (roots header.now.lines)) → Grows header.now.pins nodes.old work.old (roots header.now.lines) (join_trees (code_join Of-as-End.decoded Of-as-End.code J.Joining.joined) (tree (listed nodes.old) header.now.pins 0 left) (tree (listed nodes.old) header.now.pins 0 right)) nodes.new result }
+    ensures { In left (held (roots header.now.lines)) → In right (held (roots header.now.lines)) → Grows header.now.pins nodes.old work.old (roots header.now.lines) (join_trees (code_join J.Of.End.decoded J.Of.End.code J.Joining.joined) (tree (listed nodes.old) header.now.pins 0 left) (tree (listed nodes.old) header.now.pins 0 right)) nodes.new result }
 {
     let lines = header.lines;
     join_roots(joining, nodes, work, header.pins, &lines, left, right)
@@ -76,7 +76,7 @@ impl OpenPlan {
         nodes: &mut [Node],
         work: &mut [u32],
     ) -> Result<(), Fault>
-        ensures { Did self.old.header nodes.old (join (decodes Of-as-End.decoded) (code_join Of-as-End.decoded Of-as-End.code J.Joining.joined) a b d (length nodes.old) (length work.old)) result self.new.header nodes.new }
+        ensures { Did self.old.header nodes.old (join (decodes J.Of.End.decoded) (code_join J.Of.End.decoded J.Of.End.code J.Joining.joined) a b d (length nodes.old) (length work.old)) result self.new.header nodes.new }
     {
         check_join(&self.header, a, b, d, nodes.len(), work.len())?;
         let left = root_of(&self.header, a)?;

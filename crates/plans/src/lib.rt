@@ -1,3 +1,4 @@
+#![tactic(auto)]
 // Plans: a header of 32 lines over a node table, and the calls on it.
 pub mod asking;
 mod checks;

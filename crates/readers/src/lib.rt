@@ -1,3 +1,4 @@
+#![tactic(auto)]
 // Readers of accepted map files, in the caller's own bytes; each is a source.
 pub mod bit_file;
 pub mod bits;

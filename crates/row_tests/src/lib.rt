@@ -1,3 +1,4 @@
+#![tactic(auto)]
 // Tests of rows, with a source, an end kind and a joining that the library does not know.
 pub mod dawn;
 pub mod lamp;

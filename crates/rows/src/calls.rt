@@ -23,7 +23,7 @@ pub struct Draw<S> {
 }
 
 impl<S: Source> Row for Draw<S> {
-    ghost calls = { λ r l. draw r.line (S.Source.width r.source) (codes Of-as-End.code (S.Source.selection r.source)) (handed r.hand l).nodes (handed r.hand l).records (handed r.hand l).work ∷ [] };
+    ghost calls = { λ r l. draw r.line (S.Source.width r.source) (codes S.Of.End.code (S.Source.selection r.source)) (handed r.hand l).nodes (handed r.hand l).records (handed r.hand l).work ∷ [] };
 
     fn run(
         &self,
@@ -54,7 +54,7 @@ pub struct Join<J> {
 }
 
 impl<J: Joining> Row for Join<J> {
-    ghost calls = { λ r l. join (decodes Of-as-End.decoded) (code_join Of-as-End.decoded Of-as-End.code J.Joining.joined) r.left r.right r.line (handed r.hand l).nodes (handed r.hand l).work ∷ [] };
+    ghost calls = { λ r l. join (decodes J.Of.End.decoded) (code_join J.Of.End.decoded J.Of.End.code J.Joining.joined) r.left r.right r.line (handed r.hand l).nodes (handed r.hand l).work ∷ [] };
 
     fn run(
         &self,

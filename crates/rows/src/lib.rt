@@ -1,3 +1,4 @@
+#![tactic(auto)]
 // Rows of calls on a plan, and the laws that hold after any of them.
 pub mod after;
 pub mod calls;

@@ -1,3 +1,4 @@
+#![tactic(auto)]
 // Reads a switch file of bits from standard input, and prints the nodes of its line or why it is refused.
 use quotes::price::Price;
 use quotes::quoting::quote;

@@ -1,3 +1,4 @@
+#![tactic(auto)]
 // Settled examples on the calls: what each of them tells, side by side in specs/Examples.
 pub mod maps;
 pub mod mount;

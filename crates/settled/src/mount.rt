@@ -19,7 +19,7 @@ use sources::source::Source;
 
 // The codes of a source of two pins, drawn on a new plan and read at each address.
 fn read_four<S: Source>(source: &S) -> Result<[Result<u16, Fault>; 4], Fault>
-    ensures { ReadsFour (S.Source.width source.now) (codes Of-as-End.code (S.Source.selection source.now)) result }
+    ensures { ReadsFour (S.Source.width source.now) (codes S.Of.End.code (S.Source.selection source.now)) result }
 {
     let mut nodes = [Node::blank(); 3];
     let mut records = [BLANK_RECORD; 3];

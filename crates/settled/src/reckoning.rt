@@ -22,7 +22,7 @@ use trees::build::build;
 
 // The tree records of a map, and the nodes of its line on a new plan in this order.
 fn reckon<S: Source>(source: &S, order: &[u8]) -> Result<Reckoning, Fault>
-    ensures { Reckons (S.Source.width source.now) (codes Of-as-End.code (S.Source.selection source.now)) order.now result }
+    ensures { Reckons (S.Source.width source.now) (codes S.Of.End.code (S.Source.selection source.now)) order.now result }
 {
     let mut nodes = [Node::blank(); 8];
     let mut records = [BLANK_RECORD; 8];

@@ -1,3 +1,4 @@
+#![tactic(auto)]
 // Tests of sources: map files and layers, asked block by block and held to truth tables.
 #[cfg(test)]
 mod asking;

@@ -1,3 +1,4 @@
+#![tactic(auto)]
 // Sources: a pin count and a selection of ends, asked by blocks; and layers over any source.
 pub mod block;
 pub mod flipped;

@@ -33,7 +33,7 @@ impl Record {
 // The one code of a block, or nothing if the block is mixed.
 fn code_of<S: Source>(source: &S, level: u32, block: u32) -> Option<u16>
     requires { Inside (S.Source.width source.now) level block }
-    ensures { result ≡ block_code (S.Source.width source.now) (codes Of-as-End.code (S.Source.selection source.now)) level block }
+    ensures { result ≡ block_code (S.Source.width source.now) (codes S.Of.End.code (S.Source.selection source.now)) level block }
 {
     match source.ask(level, block) {
         Answer::All(end) => Some(end.encode()),
@@ -51,7 +51,7 @@ fn grow<S: Source>(
     len: usize,
 ) -> Result<(Half, usize), Fault>
     requires { (Inside (S.Source.width source.now) level block) × (len ≤ length table.old) }
-    ensures { Grows (S.Source.width source.now) (codes Of-as-End.code (S.Source.selection source.now)) level block table.old len table.new result }
+    ensures { Grows (S.Source.width source.now) (codes S.Of.End.code (S.Source.selection source.now)) level block table.old len table.new result }
 {
     let Some(code) = code_of(source, level, block) else {
         if len >= table.len() {
@@ -65,8 +65,8 @@ fn grow<S: Source>(
 
 // Gives the record `i` its two halves.
 fn divide<S: Source>(source: &S, table: &mut [Record], i: usize, len: usize) -> Result<usize, Fault>
-    requires { (Drafted (S.Source.width source.now) (codes Of-as-End.code (S.Source.selection source.now)) table.old i len) × (i < len) }
-    ensures { Advances (S.Source.width source.now) (codes Of-as-End.code (S.Source.selection source.now)) table.old len table.new (i + 1) result }
+    requires { (Drafted (S.Source.width source.now) (codes S.Of.End.code (S.Source.selection source.now)) table.old i len) × (i < len) }
+    ensures { Advances (S.Source.width source.now) (codes S.Of.End.code (S.Source.selection source.now)) table.old len table.new (i + 1) result }
 {
     let record = table[i];
     let level = record.level + 1;
@@ -84,8 +84,8 @@ fn divide_row<S: Source>(
     from: usize,
     to: usize,
 ) -> Result<usize, Fault>
-    requires { Drafted (S.Source.width source.now) (codes Of-as-End.code (S.Source.selection source.now)) table.old from to }
-    ensures { Advances (S.Source.width source.now) (codes Of-as-End.code (S.Source.selection source.now)) table.old to table.new to result }
+    requires { Drafted (S.Source.width source.now) (codes S.Of.End.code (S.Source.selection source.now)) table.old from to }
+    ensures { Advances (S.Source.width source.now) (codes S.Of.End.code (S.Source.selection source.now)) table.old to table.new to result }
 {
     let mut len = to;
     for i in from..to {
@@ -96,7 +96,7 @@ fn divide_row<S: Source>(
 
 // Writes the contracted tree of a source into the table, level by level.
 pub fn build<S: Source>(source: &S, table: &mut [Record]) -> Result<Tree, Fault>
-    ensures { Builds (S.Source.width source.now) (codes Of-as-End.code (S.Source.selection source.now)) table.old table.new result }
+    ensures { Builds (S.Source.width source.now) (codes S.Of.End.code (S.Source.selection source.now)) table.old table.new result }
 {
     let pins = source.pins();
     let (root, count) = grow(source, 0, 0, table, 0)?;

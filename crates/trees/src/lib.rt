@@ -1,3 +1,4 @@
+#![tactic(auto)]
 // The contracted tree of a source: one record for each mixed block.
 pub mod build;
 pub mod laws;

@@ -6,4 +6,4 @@ pub returns : goal.returns
 returns c =
     drawn_root c.args.tree c.args.records.now c.args.order.now c.args.pins c.args.nodes.now c.args.work.now (roots c.args.lines.now)
     c.prepare-marks.result.0.now c.prepare-marks.result.1.now c.prepare-marks.ensures
-    c.draw-tree.new.nodes c.draw-tree.new.marks c.draw-tree.new.index c.draw-tree.result c.draw-tree.ensures
+    c.draw_tree.new.nodes c.draw_tree.new.marks c.draw_tree.new.index c.draw_tree.result c.draw_tree.ensures

@@ -9,6 +9,6 @@ returns-in-Err c =
     let k = c.args.format in
     let e = c.in-Err.ensures in
     record {
-      value = c.blank-file.ensures ∙ sym (ap (λ o. cond (is_none o) c.args.bytes.now (blank k)) e);
-      good = subst (λ (bs : List ℕ). fault k bs ≡ None) (sym c.blank-file.ensures) (blank_good k);
+      value = c.blank_file.ensures ∙ sym (ap (λ o. cond (is_none o) c.args.bytes.now (blank k)) e);
+      good = subst (λ (bs : List ℕ). fault k bs ≡ None) (sym c.blank_file.ensures) (blank_good k);
     }

@@ -12,10 +12,10 @@ returns-then-place-pins t c =
       past = λ l. absurd (omega arith);
     }
 
-pub returns-then-is-end : goal.returns-then-is-end
-returns-then-is-end t c =
+pub returns-then-is_end : goal.returns-then-is_end
+returns-then-is_end t c =
     record {
-      set = strap_end c.args.at c.args.high c.args.pins c.args.place c.args.branch c.args.nodes.now c.args.marks.now c.args.index.now (c.is-end.ensures.0 c.if-is-end.true);
+      set = strap_end c.args.at c.args.high c.args.pins c.args.place c.args.branch c.args.nodes.now c.args.marks.now c.args.index.now (c.is_end.ensures.0 c.if-is_end.true);
       past = λ l. absurd (omega arith);
     }
 
@@ -26,31 +26,31 @@ returns-then-place-at t c =
       past = λ l. absurd (omega arith);
     }
 
-pub returns-in-default : goal.returns-in-default
-returns-in-default t c =
+pub returns-in_default : goal.returns-in_default
+returns-in_default t c =
     record {
       set = strap_low_refused c.args.at c.args.high c.args.pins c.args.place c.args.branch c.args.nodes.now c.args.marks.now c.args.index.now
-          c.if-place-pins.false (omega arith) c.step-low-side.result c.step-high-side.result c.step-low-side.ensures c.step-high-side.ensures
-          c.restrict.new.nodes c.restrict.new.marks c.restrict.new.index c.in-default.ensures.set;
+          c.if-place-pins.false (omega arith) c.step-low_side.result c.step-high_side.result c.step-low_side.ensures c.step-high_side.ensures
+          c.restrict.new.nodes c.restrict.new.marks c.restrict.new.index c.in_default.ensures.set;
       past = λ l. absurd (omega arith);
     }
 
-pub returns-then-same-branch : goal.returns-then-same-branch
-returns-then-same-branch t c =
+pub returns-then-same_branch : goal.returns-then-same_branch
+returns-then-same_branch t c =
     record {
       set = strap_passed c.args.at c.args.high c.args.pins c.args.place c.args.branch c.args.nodes.now c.args.marks.now c.args.index.now
-          c.if-place-pins.false (omega arith) c.step-low-side.result c.step-high-side.result c.step-low-side.ensures c.step-high-side.ensures
-          c.restrict.new.nodes c.restrict.new.marks c.restrict.new.index c.in-Some.low c.in-Some.ensures.set (c.same-branch.ensures.0 c.if-same-branch.true);
+          c.if-place-pins.false (omega arith) c.step-low_side.result c.step-high_side.result c.step-low_side.ensures c.step-high_side.ensures
+          c.restrict.new.nodes c.restrict.new.marks c.restrict.new.index c.in-Some.low c.in-Some.ensures.set (c.same_branch.ensures.0 c.if-same_branch.true);
       past = λ l. absurd (omega arith);
     }
 
-pub returns-in-default-restrict : goal.returns-in-default-restrict
-returns-in-default-restrict t c =
+pub returns-in_default-restrict : goal.returns-in_default-restrict
+returns-in_default-restrict t c =
     record {
       set = strap_high_refused c.args.at c.args.high c.args.pins c.args.place c.args.branch c.args.nodes.now c.args.marks.now c.args.index.now
-          c.if-place-pins.false (omega arith) c.step-low-side.result c.step-high-side.result c.step-low-side.ensures c.step-high-side.ensures
+          c.if-place-pins.false (omega arith) c.step-low_side.result c.step-high_side.result c.step-low_side.ensures c.step-high_side.ensures
           c.restrict.new.nodes c.restrict.new.marks c.restrict.new.index c.in-Some.low c.in-Some.ensures.set
-          c.restrict-2.new.nodes c.restrict-2.new.marks c.restrict-2.new.index c.in-default-restrict.ensures.set;
+          c.restrict-2.new.nodes c.restrict-2.new.marks c.restrict-2.new.index c.in_default-restrict.ensures.set;
       past = λ l. absurd (omega arith);
     }
 
@@ -58,9 +58,9 @@ pub returns : goal.returns
 returns t c =
     record {
       set = strap_node c.args.at c.args.high c.args.pins c.args.place c.args.branch c.args.nodes.now c.args.marks.now c.args.index.now
-          c.if-place-pins.false (omega arith) c.step-low-side.result c.step-high-side.result c.step-low-side.ensures c.step-high-side.ensures
+          c.if-place-pins.false (omega arith) c.step-low_side.result c.step-high_side.result c.step-low_side.ensures c.step-high_side.ensures
           c.restrict.new.nodes c.restrict.new.marks c.restrict.new.index c.in-Some.low c.in-Some.ensures.set
           c.restrict-2.new.nodes c.restrict-2.new.marks c.restrict-2.new.index c.in-Some-restrict.up c.in-Some-restrict.ensures.set
-          c.node-for.new.nodes c.node-for.new.marks c.node-for.new.index c.node-for.result c.node-for.ensures;
+          c.node_for.new.nodes c.node_for.new.marks c.node_for.new.index c.node_for.result c.node_for.ensures;
       past = λ l. absurd (omega arith);
     }

@@ -9,13 +9,13 @@ loop-k-init c = (omega arith, λ size room wide short leading. grown_none size (
 
 pub loop-k-preserved : goal.loop-k-preserved
 loop-k-preserved c =
-    let a = c.meet-both-count.ensures.inside in
-    let same_row = c.meet-both-count.auto.row in
-    let same_seen = c.meet-both-count.auto.seen in (
+    let a = c.meet_both-count.ensures.inside in
+    let same_row = c.meet_both-count.auto.row in
+    let same_seen = c.meet_both-count.auto.seen in (
       omega (arith, a, same_row),
-      one_further (listed c.args.nodes.now) c.args.place c.args.front.now c.args.len c.loop-k.k c.number-in.result c.loop-k.row c.loop-k.count c.loop-k.seen
-          c.meet-both-count.new.row c.meet-both-count.result c.meet-both-count.new.seen c.loop-k-test.true c.requires (short_is _ c.number-in.result c.number-in.ensures) same_row same_seen
-          c.meet-both-count.ensures.meets c.loop-k.invariant.1,
+      one_further (listed c.args.nodes.now) c.args.place c.args.front.now c.args.len c.loop-k.k c.number_in.result c.loop-k.row c.loop-k.count c.loop-k.seen
+          c.meet_both-count.new.row c.meet_both-count.result c.meet_both-count.new.seen c.loop-k-test.true c.requires (short_is _ c.number_in.result c.number_in.ensures) same_row same_seen
+          c.meet_both-count.ensures.meets c.loop-k.invariant.1,
     )
 
 pub returns : goal.returns

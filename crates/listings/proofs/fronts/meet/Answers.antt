@@ -2,8 +2,8 @@ use Rattle.std.proofs.Common.{arith}
 use Rattle.listings.proofs.Meeting.{meets_end, meets_outside, meets_known, meets_full, meets_new}
 use Rattle.listings.proofs.fronts.meet.Goals as goal
 
-pub returns-in-default : goal.returns-in-default
-returns-in-default c = record { inside = c.requires; meets = meets_end c.args.row.now c.args.count c.args.seen.now c.args.branch c.in-default.field-0 c.in-default.is }
+pub returns-in_default : goal.returns-in_default
+returns-in_default c = record { inside = c.requires; meets = meets_end c.args.row.now c.args.count c.args.seen.now c.args.branch c.in_default.field-0 c.in_default.is }
 
 pub returns-then-at-seen : goal.returns-then-at-seen
 returns-then-at-seen c =

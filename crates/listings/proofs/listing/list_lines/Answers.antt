@@ -3,20 +3,20 @@ use Rattle.tables.specs.Lines.{roots}
 use Rattle.listings.proofs.Listed.{too_many_pins, buffer_short, buffer_written}
 use Rattle.listings.proofs.listing.list_lines.Goals as goal
 
-pub returns-then-pin-count-gt20 : goal.returns-then-pin-count-gt20
-returns-then-pin-count-gt20 c =
-    too_many_pins c.args.nodes.now (length c.args.work.now) c.args.pins.now (roots c.args.lines.now) c.args.buffer.now c.at.result c.at.ensures c.if-pin-count-gt20.true
+pub returns-then-pin_count-gt20 : goal.returns-then-pin_count-gt20
+returns-then-pin_count-gt20 c =
+    too_many_pins c.args.nodes.now (length c.args.work.now) c.args.pins.now (roots c.args.lines.now) c.args.buffer.now c.at.result c.at.ensures c.if-pin_count-gt20.true
 
 pub returns-then-buffer-needed : goal.returns-then-buffer-needed
 returns-then-buffer-needed c =
-    buffer_short c.args.nodes.now c.args.work.now c.args.pins.now c.number-nodes-order.result.0.now c.number-nodes-order.result.1.now c.args.lines.now c.args.buffer.now
-    c.told-lines c.if-pin-count-gt20.false c.number-nodes-order.ensures.numbers c.listing-length-needed.result c.listing-length-needed.ensures c.at-then-buffer-needed.result c.at-then-buffer-needed.ensures c.if-buffer-needed.true
+    buffer_short c.args.nodes.now c.args.work.now c.args.pins.now c.number_nodes-order.result.0.now c.number_nodes-order.result.1.now c.args.lines.now c.args.buffer.now
+    c.told-lines c.if-pin_count-gt20.false c.number_nodes-order.ensures.numbers c.listing_length-needed.result c.listing_length-needed.ensures c.at-then-buffer-needed.result c.at-then-buffer-needed.ensures c.if-buffer-needed.true
 
 pub returns : goal.returns
 returns c =
-    let order = c.number-nodes-order.result.0.now in
+    let order = c.number_nodes-order.result.0.now in
     let pins = c.args.pins.now in
-    let needed = c.listing-length-needed.result in
+    let needed = c.listing_length-needed.result in
     let z : needed - 0 ≡ needed = omega arith in
-    buffer_written c.args.nodes.now c.args.work.now pins order c.number-nodes-order.result.1.now c.args.lines.now c.args.buffer.now
-    c.told-lines c.if-pin-count-gt20.false c.number-nodes-order.ensures.numbers needed c.listing-length-needed.ensures c.write-listing.new.room _ c.if-buffer-needed.false c.write-listing.ensures (ap (λ x. drop x c.args.buffer.now) z)
+    buffer_written c.args.nodes.now c.args.work.now pins order c.number_nodes-order.result.1.now c.args.lines.now c.args.buffer.now
+    c.told-lines c.if-pin_count-gt20.false c.number_nodes-order.ensures.numbers needed c.listing_length-needed.ensures c.write_listing.new.room _ c.if-buffer-needed.false c.write_listing.ensures (ap (λ x. drop x c.args.buffer.now) z)

@@ -9,7 +9,7 @@ loop-line-init c = writes_nothing c.args.room.now c.args.at
 pub put-at-requires : goal.put-at-requires
 put-at-requires c =
     let e = lines_at c.args.numbers.now c.args.lines.now c.loop-line.line-index c.args.room.now c.args.at c.loop-line.room c.loop-line.at c.loop-line.invariant (omega arith) in
-    let l : length c.line-bytes.result ≡ 3 = ap length c.line-bytes.ensures ∙ line_length (root c.relabel-line.result) in
+    let l : length c.line_bytes.result ≡ 3 = ap length c.line_bytes.ensures ∙ line_length (root c.relabel_line.result) in
     let same = c.loop-line.auto.room in
     let pre = c.requires in
     omega (arith, e, l, same, pre)
@@ -17,7 +17,7 @@ put-at-requires c =
 pub loop-line-preserved : goal.loop-line-preserved
 loop-line-preserved c =
     line_put c.args.numbers.now c.args.lines.now c.loop-line.line-index c.args.room.now c.args.at c.loop-line.room c.loop-line.at c.loop-line.invariant
-    c.loop-line-test.true c.relabel-line.result c.relabel-line.ensures c.line-bytes.result c.line-bytes.ensures c.put-at.new.room c.put-at.result c.put-at.ensures
+    c.loop-line-test.true c.relabel_line.result c.relabel_line.ensures c.line_bytes.result c.line_bytes.ensures c.put-at.new.room c.put-at.result c.put-at.ensures
 
 pub returns : goal.returns
 returns c = lines_put c.args.numbers.now c.args.lines.now c.loop-line.line-index c.args.room.now c.args.at c.loop-line.room c.loop-line.at c.loop-line.invariant c.loop-line-test.false

@@ -11,22 +11,22 @@ by i n c a e = (grind (arith, nat_tests), grind (arith, nat_tests))
 not_by : (i n c a : ℕ) → (ltb i n && leb c a) ≡ false → i < n → a < c
 not_by i n c a e l = grind (arith, nat_tests)
 
-pub returns-then-changes-by : goal.returns-then-changes-by
-returns-then-changes-by c =
+pub returns-then-changes_by : goal.returns-then-changes_by
+returns-then-changes_by c =
     let k = c.args.format in
     let bs = c.args.bytes.now in
-    let i = c.last-change-i.result in
-    let more = by i (change_count k bs) (change_at k bs (i + 1)) c.span-first.result.1 (sym c.changes-by.ensures ∙ c.if-changes-by.true) in
-    block_differing k bs c.requires c.pin-count-pins.result c.args.level c.args.block c.span-first.result.0 c.span-first.result.1 i
-    c.pin-count-pins.ensures (c.is-block.ensures.0 c.if-not-is-block.false) c.span-first.ensures.0 c.span-first.ensures.1 c.last-change-i.ensures
+    let i = c.last_change-i.result in
+    let more = by i (change_count k bs) (change_at k bs (i + 1)) c.span-first.result.1 (sym c.changes_by.ensures ∙ c.if-changes_by.true) in
+    block_differing k bs c.requires c.pin_count-pins.result c.args.level c.args.block c.span-first.result.0 c.span-first.result.1 i
+    c.pin_count-pins.ensures (c.is_block.ensures.0 c.if-not-is_block.false) c.span-first.ensures.0 c.span-first.ensures.1 c.last_change-i.ensures
     more.0 more.1
 
-pub returns-else-changes-by : goal.returns-else-changes-by
-returns-else-changes-by c =
+pub returns-else-changes_by : goal.returns-else-changes_by
+returns-else-changes_by c =
     let k = c.args.format in
     let bs = c.args.bytes.now in
-    let i = c.last-change-i.result in
-    block_uniform k bs c.requires c.pin-count-pins.result c.args.level c.args.block c.span-first.result.0 c.span-first.result.1 i
-    c.pin-count-pins.ensures (c.is-block.ensures.0 c.if-not-is-block.false) c.span-first.ensures.0 c.span-first.ensures.1 c.last-change-i.ensures
-    c.code-after.result c.code-after.ensures
-    (not_by i (change_count k bs) (change_at k bs (i + 1)) c.span-first.result.1 (sym c.changes-by.ensures ∙ c.if-changes-by.false))
+    let i = c.last_change-i.result in
+    block_uniform k bs c.requires c.pin_count-pins.result c.args.level c.args.block c.span-first.result.0 c.span-first.result.1 i
+    c.pin_count-pins.ensures (c.is_block.ensures.0 c.if-not-is_block.false) c.span-first.ensures.0 c.span-first.ensures.1 c.last_change-i.ensures
+    c.code_after.result c.code_after.ensures
+    (not_by i (change_count k bs) (change_at k bs (i + 1)) c.span-first.result.1 (sym c.changes_by.ensures ∙ c.if-changes_by.false))

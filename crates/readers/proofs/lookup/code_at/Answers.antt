@@ -7,4 +7,4 @@ pub returns : goal.returns
 returns c =
     let k = c.args.format in
     let bs = c.args.bytes.now in
-    c.code-after.ensures ∙ ap (code_of k bs) c.last-change.ensures ∙ changes_mean k bs c.requires.entries c.args.address
+    c.code_after.ensures ∙ ap (code_of k bs) c.last_change.ensures ∙ changes_mean k bs c.requires.entries c.args.address

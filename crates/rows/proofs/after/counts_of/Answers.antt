@@ -10,7 +10,7 @@ pub loop-line-preserved : goal.loop-line-preserved
 loop-line-preserved c = (
   simp length-set c.loop-line.invariant.0,
   λ p o. counts_more (λ d w. count_if_told p d (length c.args.nodes.now) w) (length c.loop-line.work) (length c.args.work.now) c.loop-line.auto.work
-      c.loop-line.counts c.loop-line.line c.count-of.result c.loop-line.invariant.0 c.loop-line-test.true (c.count-of.ensures p o) (c.loop-line.invariant.1 p o),
+      c.loop-line.counts c.loop-line.line c.count_of.result c.loop-line.invariant.0 c.loop-line-test.true (c.count_of.ensures p o) (c.loop-line.invariant.1 p o),
 )
 
 pub returns : goal.returns

@@ -6,5 +6,5 @@ use Rattle.settled.proofs.mount.mount_settles.Goals as goal
 
 pub returns : goal.returns
 returns c =
-    let same = c.over.ensures ∙ ap (accepted Bits) c.in-ok-accept.ensures.same in
-    mount_settled _ c.read-mounted.result same c.read-mounted.ensures
+    let same = c.over.ensures ∙ ap (accepted Bits) c.in_ok-accept.ensures.same in
+    mount_settled _ c.read_mounted.result same c.read_mounted.ensures

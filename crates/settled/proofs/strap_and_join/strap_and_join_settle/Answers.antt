@@ -6,8 +6,8 @@ use Rattle.settled.proofs.strap_and_join.strap_and_join_settle.Goals as goal
 
 pub returns : goal.returns
 returns c =
-    let k₂ = c.draw-two.auto in
-    let o₂ = c.in-ok-plan.ensures refl refl refl in
+    let k₂ = c.draw_two.auto in
+    let o₂ = c.in_ok-plan.ensures refl refl refl in
     let d₃ = at_lengths strapping 3 60 _ _ _ _ _ _ _ k₂.nodes k₂.work c.strap-strapped.ensures in
     let o₃ = d₃.leaves two_drawn o₂ in
     let n₃ = c.strap-strapped.auto.nodes ∙ k₂.nodes in

@@ -9,5 +9,5 @@ returns-then-i-marks t c =
 
 pub returns : goal.returns
 returns t c =
-    mark_node c.args.pins c.args.nodes.now c.args.marks.now c.args.place c.in-Node.i c.node-at-node.result c.args.branch c.in-Node.is c.node-at-node.ensures
-    c.mark-from.new.marks c.mark-from-2.new.marks c.if-i-marks.false (length-set c.args.marks.now c.in-Node.i 1) (let e = length-set c.args.marks.now c.in-Node.i 1 in omega arith) c.mark-from.ensures c.mark-from-2.ensures
+    mark_node c.args.pins c.args.nodes.now c.args.marks.now c.args.place c.in-Node.i c.node_at-node.result c.args.branch c.in-Node.is c.node_at-node.ensures
+    c.mark_from.new.marks c.mark_from-2.new.marks c.if-i-marks.false (length-set c.args.marks.now c.in-Node.i 1) (let e = length-set c.args.marks.now c.in-Node.i 1 in omega arith) c.mark_from.ensures c.mark_from-2.ensures

@@ -6,8 +6,8 @@ use Rattle.tables.proofs.Counts.{filled_more, filled_take_le, filled_take_index,
 use Rattle.tables.proofs.marking.count_marks.Goals as goal
 use Rattle.tables.proofs.marking.count_marks.Goals.{then-mark-ne0, else-mark-ne0}
 
-pub overflow-add-count : goal.overflow-add-count
-overflow-add-count c = let e = c.loop-mark.invariant in let l = filled_take_index c.args.marks.now c.loop-mark.mark-index in search rules
+pub overflow_add-count : goal.overflow_add-count
+overflow_add-count c = let e = c.loop-mark.invariant in let l = filled_take_index c.args.marks.now c.loop-mark.mark-index in search rules
 
 pub loop-mark-preserved : goal.loop-mark-preserved
 loop-mark-preserved c =

@@ -19,8 +19,8 @@ loop-line-preserved c = λ us dg long f.
     elim c.match-line.branch [
       | in-Held w ↦
           subst P (sym w.marks-is)
-          (line_held T ls k c.loop-line.marks w.mark-from.new.marks w.in-Held.root (omega arith) w.in-Held.is
-          (w.mark-from.ensures us dg (omega arith) (f w.in-Held.root (root_held ls k w.in-Held.root (omega arith) w.in-Held.is))) old)
+          (line_held T ls k c.loop-line.marks w.mark_from.new.marks w.in-Held.root (omega arith) w.in-Held.is
+          (w.mark_from.ensures us dg (omega arith) (f w.in-Held.root (root_held ls k w.in-Held.root (omega arith) w.in-Held.is))) old)
       | in-Empty w ↦ subst P (sym w.marks-is) (line_empty T ls k c.loop-line.marks (omega arith) w.in-Empty.is old)
     ]
 

@@ -5,25 +5,25 @@ use Rattle.trees.proofs.Rows.{rows}
 use Rattle.trees.proofs.Fill.{root_full, root_is, root_drafted, root_untouched, advanced_none, advanced_on, refused_on, no_rows, level_end, written}
 use Rattle.trees.proofs.build.build.Goals as goal
 
-pub returns-in-err-root : goal.returns-in-err-root
-returns-in-err-root g c =
-    let p = err_from_is_err_and c.from-residual.result c.from-residual.ensures.1 in
-    rw (p.1, p.2) (root_full _ _ _ _ c.in-err-root.ensures)
+pub returns-in_err-root : goal.returns-in_err-root
+returns-in_err-root g c =
+    let p = err_from_is_err_and c.from_residual.result c.from_residual.ensures.1 in
+    rw (p.1, p.2) (root_full _ _ _ _ c.in_err-root.ensures)
 
 pub loop-level-init : goal.loop-level-init
 loop-level-init g c =
-    (advanced_none _ _ _ 0 c.in-ok-root.count (root_drafted _ _ _ _ c.in-ok-root.root c.in-ok-root.count c.in-ok-root.ensures), no_rows _ _)
+    (advanced_none _ _ _ 0 c.in_ok-root.count (root_drafted _ _ _ _ c.in_ok-root.root c.in_ok-root.count c.in_ok-root.ensures), no_rows _ _)
 
 pub loop-level-preserved : goal.loop-level-preserved
 loop-level-preserved g c =
     let below : c.loop-level.level ≤ g.S.Source.width c.args.source.now = omega (arith, c.pins-pins.ensures) in
-    (advanced_on _ _ _ _ _ _ _ _ c.loop-level.done _ c.loop-level.invariant.0 c.in-ok-len.ensures, level_end _ _ _ c.loop-level.done _ c.loop-level.level c.loop-level.invariant.0.drafted c.loop-level.invariant.1 below)
+    (advanced_on _ _ _ _ _ _ _ _ c.loop-level.done _ c.loop-level.invariant.0 c.in_ok-len.ensures, level_end _ _ _ c.loop-level.done _ c.loop-level.level c.loop-level.invariant.0.drafted c.loop-level.invariant.1 below)
 
-pub returns-in-err-len : goal.returns-in-err-len
-returns-in-err-len g c =
-    let p = err_from_is_err_and c.from-residual-in-err-len.result c.from-residual-in-err-len.ensures.1 in
+pub returns-in_err-len : goal.returns-in_err-len
+returns-in_err-len g c =
+    let p = err_from_is_err_and c.from_residual-in_err-len.result c.from_residual-in_err-len.ensures.1 in
     let same : length c.loop-level.table ≡ length c.args.table.now = omega arith in
-    rw (p.1, p.2) (refused_on _ _ _ _ _ same c.in-err-len.ensures)
+    rw (p.1, p.2) (refused_on _ _ _ _ _ same c.in_err-len.ensures)
 
 pub returns : goal.returns
 returns g c =
@@ -35,4 +35,4 @@ returns g c =
     let all : c.loop-level.done ≡ length (rows n f n) = c.loop-level.invariant.1 ∙ ap (λ (x : ℕ). length (rows n f x)) level in
     let same : length c.loop-level.table ≡ length c.args.table.now = omega arith in
     written n f c.args.table.now c.loop-level.table c.loop-level.done c.loop-level.len a.drafted all same
-    (λ k w. a.untouched k w ∙ root_untouched n f c.args.table.now c.grow.new.table c.in-ok-root.root c.in-ok-root.count c.in-ok-root.ensures k (omega (arith, a.more))) c.pins-pins.result c.in-ok-root.root (g.S.Source.few s) c.pins-pins.ensures (root_is n f c.args.table.now c.grow.new.table c.in-ok-root.root c.in-ok-root.count c.in-ok-root.ensures)
+    (λ k w. a.untouched k w ∙ root_untouched n f c.args.table.now c.grow.new.table c.in_ok-root.root c.in_ok-root.count c.in_ok-root.ensures k (omega (arith, a.more))) c.pins-pins.result c.in_ok-root.root (g.S.Source.few s) c.pins-pins.ensures (root_is n f c.args.table.now c.grow.new.table c.in_ok-root.root c.in_ok-root.count c.in_ok-root.ensures)

@@ -13,4 +13,4 @@ returns-then-i-table t c = code_at_past c.args.table.now c.args.half c.args.left
 
 pub returns-else-i-table : goal.returns-else-i-table
 returns-else-i-table t c =
-    code_at_half c.args.table.now c.args.half c.args.left c.args.address c.in-Split.i c.code-below.result c.in-Split.is c.bit.result c.side.result (omega arith) c.bit.ensures c.side.ensures c.code-below.ensures
+    code_at_half c.args.table.now c.args.half c.args.left c.args.address c.in-Split.i c.code_below.result c.in-Split.is c.bit.result c.side.result (omega arith) c.bit.ensures c.side.ensures c.code_below.ensures

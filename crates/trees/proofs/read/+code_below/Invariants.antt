@@ -1,4 +1,4 @@
 use Rattle.trees.proofs.read.+code_below.Given as goal
 
-abbrev pub decreases-code-below : goal.decreases-code-below
-decreases-code-below l = l.left
+abbrev pub decreases-code_below : goal.decreases-code_below
+decreases-code_below l = l.left

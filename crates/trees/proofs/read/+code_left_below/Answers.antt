@@ -16,14 +16,14 @@ returns-then-mask-left-eq0 t c = left_at_mixed c.args.table.now c.args.half c.ar
 
 pub returns-in-Some : goal.returns-in-Some
 returns-in-Some t c =
-    left_at_fixed c.args.table.now c.args.half c.args.left c.args.mask c.args.value c.in-Split.i c.in-Split.is (omega arith) c.in-Some.high c.side.result c.code-left-below.result c.in-Some.ensures c.side.ensures c.code-left-below.ensures
+    left_at_fixed c.args.table.now c.args.half c.args.left c.args.mask c.args.value c.in-Split.i c.in-Split.is (omega arith) c.in-Some.high c.side.result c.code_left_below.result c.in-Some.ensures c.side.ensures c.code_left_below.ensures
 
-pub returns-in-default-code-left-below : goal.returns-in-default-code-left-below
-returns-in-default-code-left-below t c = left_at_low_two c.args.table.now c.args.half c.args.left c.args.mask c.args.value c.in-Split.i c.in-Split.is (omega arith) c.in-default.ensures c.in-default-code-left-below.ensures
+pub returns-in_default-code_left_below : goal.returns-in_default-code_left_below
+returns-in_default-code_left_below t c = left_at_low_two c.args.table.now c.args.half c.args.left c.args.mask c.args.value c.in-Split.i c.in-Split.is (omega arith) c.in_default.ensures c.in_default-code_left_below.ensures
 
-pub returns-in-default-code-left-below-2 : goal.returns-in-default-code-left-below-2
-returns-in-default-code-left-below-2 t c = left_at_high_two c.args.table.now c.args.half c.args.left c.args.mask c.args.value c.in-Split.i c.in-Split.is (omega arith) c.in-default.ensures c.in-default-code-left-below-2.ensures
+pub returns-in_default-code_left_below-2 : goal.returns-in_default-code_left_below-2
+returns-in_default-code_left_below-2 t c = left_at_high_two c.args.table.now c.args.half c.args.left c.args.mask c.args.value c.in-Split.i c.in-Split.is (omega arith) c.in_default.ensures c.in_default-code_left_below-2.ensures
 
-pub returns-in-Some-code-left-below-2 : goal.returns-in-Some-code-left-below-2
-returns-in-Some-code-left-below-2 t c =
-    left_at_both c.args.table.now c.args.half c.args.left c.args.mask c.args.value c.in-Split.i c.in-Split.is (omega arith) c.in-default.ensures c.in-Some-code-left-below.low c.in-Some-code-left-below-2.high c.agreed.result c.agreed.ensures c.in-Some-code-left-below.ensures c.in-Some-code-left-below-2.ensures
+pub returns-in-Some-code_left_below-2 : goal.returns-in-Some-code_left_below-2
+returns-in-Some-code_left_below-2 t c =
+    left_at_both c.args.table.now c.args.half c.args.left c.args.mask c.args.value c.in-Split.i c.in-Split.is (omega arith) c.in_default.ensures c.in-Some-code_left_below.low c.in-Some-code_left_below-2.high c.agreed.result c.agreed.ensures c.in-Some-code_left_below.ensures c.in-Some-code_left_below-2.ensures

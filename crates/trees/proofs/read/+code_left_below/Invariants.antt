@@ -1,4 +1,4 @@
 use Rattle.trees.proofs.read.+code_left_below.Given as goal
 
-abbrev pub decreases-code-left-below : goal.decreases-code-left-below
-decreases-code-left-below l = l.left
+abbrev pub decreases-code_left_below : goal.decreases-code_left_below
+decreases-code_left_below l = l.left

@@ -2,5 +2,5 @@ use Rattle.files.specs.declared.format.Format.TheVariants.{Settings}
 use Rattle.files.proofs.Obeying.{reader_obeys}
 use Rattle.readers.proofs.setting_file.SettingFile.end_at.Goals as goal
 
-pub code-at-requires : goal.code-at-requires
-code-at-requires c = reader_obeys Settings c.args.self.now.bytes.now c.args.self.now.accepted
+pub code_at-requires : goal.code_at-requires
+code_at-requires c = reader_obeys Settings c.args.self.now.bytes.now c.args.self.now.accepted

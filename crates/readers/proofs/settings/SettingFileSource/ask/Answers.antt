@@ -3,8 +3,8 @@ use Rattle.readers.proofs.Chips.{chips_differ}
 use Rattle.files.proofs.Obeying.{reader_obeys}
 use Rattle.readers.proofs.settings.SettingFileSource.ask.Goals as goal
 
-pub ask-codes-requires : goal.ask-codes-requires
-ask-codes-requires c = reader_obeys Settings c.args.self.now.bytes.now c.args.self.now.accepted
+pub ask_codes-requires : goal.ask_codes-requires
+ask_codes-requires c = reader_obeys Settings c.args.self.now.bytes.now c.args.self.now.accepted
 
 pub returns-in-Mixed : goal.returns-in-Mixed
 returns-in-Mixed c =

@@ -7,4 +7,4 @@ pub returns : goal.returns
 returns g c =
     let s = c.args.self.now in
     let l = lent (length c.args.nodes.now) (length c.args.records.now) (length c.args.work.now) in
-    ran_both (g.A.Row.calls s.0 l) (g.B.Row.calls s.1 l) c.run-both.ensures
+    ran_both (g.A.Row.calls s.0 l) (g.B.Row.calls s.1 l) c.run_both.ensures
