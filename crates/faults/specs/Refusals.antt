@@ -7,7 +7,7 @@ use Rattle.faults.specs.declared.fault.Layer.TheVariants.{File, Entry, Plan}
 use Rattle.faults.specs.Grounds.{number, layer_of}
 
 -- the refusal on a ground at a place
-abbrev pub at : Ground → ℕ → Fault
+abbrev pub at : (ground : Ground) → ℕ → Fault
 at g p = record { ground = g; layer = layer_of g; place = p }
 
 -- the refusal if the test holds, else what is tried next

@@ -1,5 +1,6 @@
 ghost use Rattle.std.specs.Prelude.{◌≡◌};
 ghost use Rattle.faults.specs.Grounds.{number, layer_of};
+ghost use Rattle.faults.specs.Refusals.{at};
 
 // Why a call refuses. The numbers are the product's own, and are tried in rising order.
 #[derive(Clone, Copy, PartialEq, Eq, Debug)]
@@ -67,7 +68,7 @@ impl Ground {
 
     // The refusal on this ground at a place.
     pub fn at(self, place: usize) -> Fault
-        ensures { result ≡ record { ground = self; layer = layer_of self; place = place } }
+        ensures { result ≡ at self place }
     {
         Fault {
             ground: self,

@@ -7,4 +7,4 @@ pub returns : goal.returns
 returns g c =
     joined_root c.args.pins c.args.nodes.now c.args.work.now (roots c.args.lines.now) c.prepare-marks.result.0.now c.prepare-marks.result.1.now c.prepare-marks.ensures
     c.apply.new.nodes c.apply.new.marks c.apply.new.index c.apply.result
-    (code_join g.Of.End.decoded g.Of.End.code g.J.Joining.joined) c.args.left c.args.right c.apply.ensures
+    (code_join g.J.Of.End.decoded g.J.Of.End.code g.J.Joining.joined) c.args.left c.args.right c.apply.ensures

@@ -5,10 +5,10 @@ use Rattle.listings.proofs.Numbering.{numbers_lines, numbered_nodes}
 use Rattle.listings.proofs.numbers.number_nodes.Goals as goal
 
 pub returns-then-len-gt-MOST_NODES : goal.returns-then-len-gt-MOST_NODES
-returns-then-len-gt-MOST_NODES c = record { few = (let l = c.split_at_mut.ensures.front-len in omega arith); numbers = λ us dg f few room. let g = c.if-len-gt-MOST_NODES.true in absurd (omega arith) }
+returns-then-len-gt-MOST_NODES c = record { few = (let l = c.split_at_mut.ensures.front_len in omega arith); numbers = λ us dg f few room. let g = c.if-len-gt-MOST_NODES.true in absurd (omega arith) }
 
 pub returns-then-room-len : goal.returns-then-room-len
-returns-then-room-len c = record { few = (let l = c.split_at_mut-then-room-len.ensures.front-len in omega arith); numbers = λ us dg f few room. let g = c.if-room-len.true in absurd (omega arith) }
+returns-then-room-len c = record { few = (let l = c.split_at_mut-then-room-len.ensures.front_len in omega arith); numbers = λ us dg f few room. let g = c.if-room-len.true in absurd (omega arith) }
 
 pub returns : goal.returns
 returns c =
@@ -16,15 +16,15 @@ returns c =
     let n = c.args.pins in
     let lines = roots c.args.lines.now in
     let few₀ = c.if-len-gt-MOST_NODES.false in
-    let l₀ : length c.split_at_mut-order.result.0.now ≡ length nodes = c.split_at_mut-order.ensures.front-len in
-    let l₁ : length c.split_at_mut-numbers.result.0.now ≡ length nodes = c.split_at_mut-numbers.ensures.front-len in
-    let l₂ : length c.split_at_mut-front.result.0.now ≡ length nodes = c.split_at_mut-front.ensures.front-len in
-    let l₃ : length c.split_at_mut-row.result.0.now ≡ length nodes = c.split_at_mut-row.ensures.front-len in
+    let l₀ : length c.split_at_mut-order.result.0.now ≡ length nodes = c.split_at_mut-order.ensures.front_len in
+    let l₁ : length c.split_at_mut-numbers.result.0.now ≡ length nodes = c.split_at_mut-numbers.ensures.front_len in
+    let l₂ : length c.split_at_mut-front.result.0.now ≡ length nodes = c.split_at_mut-front.ensures.front_len in
+    let l₃ : length c.split_at_mut-row.result.0.now ≡ length nodes = c.split_at_mut-row.ensures.front_len in
     let k₁ = c.meet_lines-met.auto.seen in
     let k₂ = c.meet_lines-met.auto.row in
     let s₁ = c.number_from-count.auto.seen in
     let count = c.number_from-count.result in
-    let cut_long : length c.split_at_mut-order-2.result.0.now ≡ count = c.split_at_mut-order-2.ensures.front-len in
+    let cut_long : length c.split_at_mut-order-2.result.0.now ≡ count = c.split_at_mut-order-2.ensures.front_len in
     let inside = c.number_from-count.ensures.inside in
     record {
       few = omega (arith, cut_long, inside, l₀, few₀);

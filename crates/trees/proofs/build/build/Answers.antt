@@ -29,7 +29,7 @@ pub returns : goal.returns
 returns g c =
     let s = c.args.source.now in
     let n = g.S.Source.width s in
-    let f = codes g.Of.End.code (g.S.Source.selection s) in
+    let f = codes g.S.Of.End.code (g.S.Source.selection s) in
     let a = c.loop-level.invariant.0 in
     let level : c.loop-level.level ≡ n = omega (arith, c.pins-pins.ensures) in
     let all : c.loop-level.done ≡ length (rows n f n) = c.loop-level.invariant.1 ∙ ap (λ (x : ℕ). length (rows n f x)) level in

@@ -7,5 +7,5 @@ use Rattle.trees.proofs.build.build.Given as goal
 abbrev pub invariant-loop-level : goal.invariant-loop-level
 invariant-loop-level g l =
     let n = g.S.Source.width l.source in
-    let c = codes g.Of.End.code (g.S.Source.selection l.source) in
+    let c = codes g.S.Of.End.code (g.S.Source.selection l.source) in
     Advanced n c l.initial.table l.initial.len l.table l.done l.len × (l.done ≡ length (rows n c l.level))

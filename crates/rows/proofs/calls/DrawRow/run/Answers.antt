@@ -9,7 +9,7 @@ returns g c =
     let s = c.args.self.now in
     let cut = c.within-hand.result in
     let is = c.within-hand.ensures in
-    let F : ℕ → ℕ → ℕ → Call = λ k m w. draw s.line (g.S.Source.width s.source) (codes g.Of.End.code (g.S.Source.selection s.source)) k m w in
+    let F : ℕ → ℕ → ℕ → Call = λ k m w. draw s.line (g.S.Source.width s.source) (codes g.S.Of.End.code (g.S.Source.selection s.source)) k m w in
     ran_handed F (λ k m w. refl) _ _ _ _ s.hand.nodes cut.nodes _ _ _ _ is.nodes
     (front_length s.hand.records cut.records c.args.records.now is.records)
     (front_length s.hand.work cut.work c.args.work.now is.work)

@@ -9,7 +9,7 @@ returns g c =
     let s = c.args.self.now in
     let cut = c.within-hand.result in
     let is = c.within-hand.ensures in
-    let F : ℕ → ℕ → ℕ → Call = λ k m w. join (decodes g.Of.End.decoded) (code_join g.Of.End.decoded g.Of.End.code g.J.Joining.joined) s.left s.right s.line k w in
+    let F : ℕ → ℕ → ℕ → Call = λ k m w. join (decodes g.J.Of.End.decoded) (code_join g.J.Of.End.decoded g.J.Of.End.code g.J.Joining.joined) s.left s.right s.line k w in
     ran_handed F (λ k m w. refl) _ _ _ _ s.hand.nodes cut.nodes 0 0 _ _ is.nodes refl
     (front_length s.hand.work cut.work c.args.work.now is.work)
     c.join.result c.join.ensures
