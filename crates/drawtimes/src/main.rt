@@ -140,7 +140,7 @@ fn is_asked(rt: &HostRuntime) -> io::Result<bool> {
     let mut words = env::args(rt)?;
     words.next();
     match words.next() {
-        Some(word) => Ok(word == "run"),
+        Some(word) => Ok(word.as_str() == "run"),
         None => Ok(false),
     }
 }

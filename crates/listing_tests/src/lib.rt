@@ -3,4 +3,4 @@
 #[cfg(test)]
 mod bench;
 #[cfg(test)]
-mod listings;
+mod layouts;

@@ -1,12 +1,13 @@
 // A plan beside the truth tables of its lines.
 use crate::parts::count_parts;
 use crate::steps::{Step, run};
-use crate::tables::{Table, addresses, bit_of, bits, code_at, joined, settings, strapped};
+use crate::truth::{Table, addresses, bit_of, bits, code_at, joined, settings, strapped};
 use faults::fault::Fault;
 use model::Node;
 use plans::open::OpenPlan;
 use std::alloc::{AllocError, Global};
-use std::test::*;
+use std::process::Abort;
+use std::test::Fail;
 use trees::tree::{Half, Record};
 
 const BLANK_RECORD: Record = Record {
@@ -55,6 +56,7 @@ fn line_of(lines: &[Option<Table>], line: u8) -> Table {
 
 // The count, the codes and the likenesses of a line.
 fn check_line(
+    rt: &impl Abort,
     heap: Global,
     plan: &OpenPlan,
     order: &[u8],
@@ -64,16 +66,17 @@ fn check_line(
     work: &mut [u32],
 ) -> Result<(), Fail> {
     let count = plan.count(nodes, work, line)?;
-    assert_eq!(count as usize, count_parts(heap, &[codes], order)?);
+    assert_eq!(rt; count as usize, count_parts(heap, &[codes], order)?);
     for address in 0..addresses(order.len()) {
         let code = plan.read(nodes, line, address as u32)?;
-        assert_eq!(code, code_at(&codes, address));
+        assert_eq!(rt; code, code_at(&codes, address));
     }
     Ok(())
 }
 
 // Every held line, each pair of them, and the used number.
 fn check_lines(
+    rt: &impl Abort,
     heap: Global,
     plan: &OpenPlan,
     order: &[u8],
@@ -85,15 +88,15 @@ fn check_lines(
     for a in 0..8u8 {
         if let Some(codes) = lines[a as usize] {
             held.push(codes)?;
-            check_line(heap, plan, order, a, codes, nodes, work)?;
+            check_line(rt, heap, plan, order, a, codes, nodes, work)?;
             for b in 0..8u8 {
                 if let Some(others) = lines[b as usize] {
-                    assert_eq!(plan.same(a, b)?, codes == others);
+                    assert_eq!(rt; plan.same(a, b)?, codes == others);
                 }
             }
         }
     }
-    assert_eq!(plan.used() as usize, count_parts(heap, &held, order)?);
+    assert_eq!(rt; plan.used() as usize, count_parts(heap, &held, order)?);
     Ok(())
 }
 
@@ -163,32 +166,39 @@ impl<'a> Bench<'a> {
     }
 
     // All that can be asked of the plan.
-    fn check_all(&mut self, heap: Global) -> Result<(), Fail> {
+    fn check_all(&mut self, rt: &impl Abort, heap: Global) -> Result<(), Fail> {
         let order = self.order;
         let lines = self.lines;
         let size = self.lent.nodes;
         let nodes = front(&mut self.nodes, size);
-        check_lines(heap, &self.plan, order, &lines, nodes, &mut self.work)
+        check_lines(rt, heap, &self.plan, order, &lines, nodes, &mut self.work)
     }
 
     // A call that tells this, with so much lent; a refused one changes nothing.
     pub fn step_with(
         &mut self,
+        rt: &impl Abort,
         heap: Global,
         step: Step,
         lent: Lent,
         told: &str,
     ) -> Result<(), Fail> {
-        assert_eq!(self.told(heap, step, lent)?.as_str(), told);
+        assert_eq!(rt; self.told(heap, step, lent)?.as_str(), told);
         if told == DONE {
             self.note(step);
         }
-        self.check_all(heap)
+        self.check_all(rt, heap)
     }
 
     // The same with all lent that the plan asks for.
-    pub fn step(&mut self, heap: Global, step: Step, told: &str) -> Result<(), Fail> {
+    pub fn step(
+        &mut self,
+        rt: &impl Abort,
+        heap: Global,
+        step: Step,
+        told: &str,
+    ) -> Result<(), Fail> {
         let lent = self.lent;
-        self.step_with(heap, step, lent, told)
+        self.step_with(rt, heap, step, lent, told)
     }
 }

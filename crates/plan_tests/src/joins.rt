@@ -1,10 +1,11 @@
 // Joins of all tables of bits of 2 pins, and of all tables of four settings of 1 pin, also of a line with itself.
 use crate::bench::{Bench, DONE};
 use crate::steps::Step;
-use crate::tables::How;
-use std::test::*;
+use crate::truth::How;
+use std::process::Abort;
+use std::test::Fail;
 
-fn check_join(rt: &HostRuntime, bench: &mut Bench, how: How) -> Result<(), Fail> {
+fn check_join(rt: &(impl Abort + AllocGlobal), bench: &mut Bench, how: How) -> Result<(), Fail> {
     for step in [
         Step::Join(how, 0, 1, 2),
         Step::Join(how, 1, 0, 3),
@@ -13,16 +14,21 @@ fn check_join(rt: &HostRuntime, bench: &mut Bench, how: How) -> Result<(), Fail>
         Step::Erase(3),
         Step::Erase(4),
     ] {
-        bench.step(rt.alloc(), step, DONE)?;
+        bench.step(rt, rt.alloc(), step, DONE)?;
     }
     Ok(())
 }
 
 // The joinings of two maps.
-fn check_pair(rt: &HostRuntime, order: &[u8], maps: [Step; 2], hows: &[How]) -> Result<(), Fail> {
+fn check_pair(
+    rt: &(impl Abort + AllocGlobal),
+    order: &[u8],
+    maps: [Step; 2],
+    hows: &[How],
+) -> Result<(), Fail> {
     let mut bench = Bench::new(rt.alloc(), order, 8)?;
     for map in maps {
-        bench.step(rt.alloc(), map, DONE)?;
+        bench.step(rt, rt.alloc(), map, DONE)?;
     }
     for how in hows {
         check_join(rt, &mut bench, *how)?;

@@ -15,4 +15,4 @@ mod steps;
 #[cfg(test)]
 mod straps;
 #[cfg(test)]
-mod tables;
+mod truth;

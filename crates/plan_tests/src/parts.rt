@@ -1,5 +1,5 @@
 // Parts, counted by writing all of them down.
-use crate::tables::{Table, bit_of, code_at};
+use crate::truth::{Table, bit_of, code_at};
 use std::alloc::{AllocError, Global};
 
 // What is left of a table once the pins before a place are fixed; at every address, so that the fixed bits do not matter.

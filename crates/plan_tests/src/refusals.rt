@@ -1,12 +1,12 @@
 // Each ground of each call, with the number, the layer and the place that it tells.
 use crate::bench::{Bench, DONE, Lent};
 use crate::steps::Step;
-use crate::tables::How;
+use crate::truth::How;
 use model::Node;
 use plans::open::OpenPlan;
 use std::alloc::Global;
 use std::process::Abort;
-use std::test::*;
+use std::test::Fail;
 
 // For 2 pins and 3 nodes: 3 tree records, and 60 numbers of work.
 const LENT: Lent = Lent {
@@ -107,13 +107,13 @@ const OTHERS: [Row; 17] = [
     (Step::Count(4), LENT, "REFUSED 21 P 4"),
 ];
 
-fn check_rows(rt: &HostRuntime, rows: &[Row]) -> Result<(), Fail> {
+fn check_rows(rt: &(impl Abort + AllocGlobal), rows: &[Row]) -> Result<(), Fail> {
     let mut bench = Bench::new(rt.alloc(), &[0, 1], 3)?;
     for step in HELD {
-        bench.step(rt.alloc(), step, DONE)?;
+        bench.step(rt, rt.alloc(), step, DONE)?;
     }
     for (step, lent, told) in rows {
-        bench.step_with(rt.alloc(), *step, *lent, *told)?;
+        bench.step_with(rt, rt.alloc(), *step, *lent, *told)?;
     }
     Ok(())
 }

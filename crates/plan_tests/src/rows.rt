@@ -1,8 +1,9 @@
 // A row of calls over 1 to 4 pins, in several orders.
 use crate::bench::{Bench, DONE};
 use crate::steps::Step;
-use crate::tables::How;
-use std::test::*;
+use crate::truth::How;
+use std::process::Abort;
+use std::test::Fail;
 
 const ORDERS: [&'static [u8]; 10] = [
     &[0],
@@ -48,10 +49,10 @@ const ROW: [(Step, &'static str); 27] = [
     (Step::Strap(6, 0, true, 5), DONE),
 ];
 
-fn check_row(rt: &HostRuntime, order: &[u8]) -> Result<(), Fail> {
+fn check_row(rt: &(impl Abort + AllocGlobal), order: &[u8]) -> Result<(), Fail> {
     let mut bench = Bench::new(rt.alloc(), order, 90)?;
     for (step, told) in ROW {
-        bench.step(rt.alloc(), step, told)?;
+        bench.step(rt, rt.alloc(), step, told)?;
     }
     Ok(())
 }

@@ -1,5 +1,5 @@
 // Calls on a plan, with the pattern of a truth table in place of a source.
-use crate::tables::{How, Table, addresses, bits, code_at, settings};
+use crate::truth::{How, Table, addresses, bits, code_at, settings};
 use ends::joining::{Both, Differ, Either, Joining, Overlay};
 use faults::fault::Fault;
 use map_tests::building::{bit_map, setting_map};

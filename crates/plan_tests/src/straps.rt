@@ -1,7 +1,8 @@
 // Every pin of maps of 4 pins strapped, low and high, in several orders.
 use crate::bench::{Bench, DONE};
 use crate::steps::Step;
-use std::test::*;
+use std::process::Abort;
+use std::test::Fail;
 
 const ORDERS: [[u8; 4]; 4] = [[0, 1, 2, 3], [3, 1, 0, 2], [2, 3, 1, 0], [1, 0, 3, 2]];
 
@@ -10,9 +11,9 @@ const PATTERNS: [u64; 4] = [0xFFE0, 0x0FF0, 0x6996, 0xB2E4];
 
 // The map on line 0, and beside it the strapped lines, one after the other; the pin of one that is strapped already
 // does not matter any more.
-fn check_straps(rt: &HostRuntime, order: &[u8], pattern: u64) -> Result<(), Fail> {
+fn check_straps(rt: &(impl Abort + AllocGlobal), order: &[u8], pattern: u64) -> Result<(), Fail> {
     let mut bench = Bench::new(rt.alloc(), order, 30)?;
-    bench.step(rt.alloc(), Step::Bits(pattern, 0), DONE)?;
+    bench.step(rt, rt.alloc(), Step::Bits(pattern, 0), DONE)?;
     for pin in 0..4 {
         for step in [
             Step::Strap(0, pin, false, 1),
@@ -22,7 +23,7 @@ fn check_straps(rt: &HostRuntime, order: &[u8], pattern: u64) -> Result<(), Fail
             Step::Erase(2),
             Step::Erase(3),
         ] {
-            bench.step(rt.alloc(), step, DONE)?;
+            bench.step(rt, rt.alloc(), step, DONE)?;
         }
     }
     Ok(())

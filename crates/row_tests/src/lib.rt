@@ -4,7 +4,7 @@ pub mod dawn;
 pub mod lamp;
 pub mod lamps;
 #[cfg(test)]
-mod listings;
+mod layouts;
 #[cfg(test)]
 mod mixed;
 #[cfg(test)]

@@ -44,13 +44,19 @@ fn a_listing_is_written(rt: HostRuntime) -> Result<(), Fail> {
     let mut buffer = [0xAA; 122];
     assert_eq!(rt; list_dawn(&mut buffer)?, 120);
     // The mark, version 1, two pins 0 1, two nodes: at place 0 to code 0 and node 1, at place 1 to codes 1 and 2.
-    assert_eq!(rt; &buffer[..10], &[0x4C, 0x53, 0x54, 0, 1, 2, 0, 1, 0, 2]);
+    assert_eq!(rt;
+        &buffer[..10],
+        [0x4C, 0x53, 0x54, 0, 1, 2, 0, 1, 0, 2].as_slice()
+    );
     assert_eq!(rt;
         &buffer[10..24],
-        &[0, 0, 0, 0, 1, 0, 1, 1, 0, 0, 1, 0, 0, 2]
+        [0, 0, 0, 0, 1, 0, 1, 1, 0, 0, 1, 0, 0, 2].as_slice()
     );
-    assert_eq!(rt; &buffer[24..33], &[0xFF, 0, 0, 1, 0, 0, 0xFF, 0, 0]);
-    assert_eq!(rt; &buffer[117..], &[0xFF, 0, 0, 0xAA, 0xAA]);
+    assert_eq!(rt;
+        &buffer[24..33],
+        [0xFF, 0, 0, 1, 0, 0, 0xFF, 0, 0].as_slice()
+    );
+    assert_eq!(rt; &buffer[117..], [0xFF, 0, 0, 0xAA, 0xAA].as_slice());
     Ok(())
 }
 
@@ -58,7 +64,7 @@ fn a_listing_is_written(rt: HostRuntime) -> Result<(), Fail> {
 fn a_short_buffer_is_refused(rt: HostRuntime) {
     let mut buffer = [0xAA; 119];
     assert_eq!(rt; list_dawn(&mut buffer).err(), Some(Ground::Buffer.at(120)));
-    assert_eq!(rt; &buffer[..3], &[0xAA; 3]);
+    assert_eq!(rt; &buffer[..3], [0xAA; 3].as_slice());
 }
 
 // The brighter of two lines on line 2, by two roads. On the second a join comes too soon and is refused.
