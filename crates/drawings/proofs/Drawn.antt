@@ -1,5 +1,5 @@
 -- Growing from a tree, step by step.
-use Rattle.std.proofs.Common.{◌≡◌, ℕ, zero, suc, ◌+◌, ◌-◌, ◌<◌, ◌≤◌, Bool, true, false, ◌⊎◌, List, [], ◌∷◌, length, get_or, drop, Some, None, Option, sym, refl, ap, ◌∙◌, subst, inl, inr, add-one, arith, length-drop, drop-cons}
+use Rattle.std.proofs.Common.{◌≡◌, ℕ, zero, suc, ◌+◌, ◌-◌, ◌<◌, ◌≤◌, true, false, List, [], ◌∷◌, length, get_or, drop, Some, None, Option, sym, refl, ap, ◌∙◌, subst, inl, inr, add-one, arith, length-drop, drop-cons}
 use lib.Bits.{bit_or}
 use Rattle.std.proofs.lemmas.List.{drop_all}
 use Rattle.model.specs.declared.Branch.{Branch}
@@ -14,7 +14,7 @@ use Rattle.tables.specs.States.{State, Outcome}
 use Rattle.tables.specs.Additions.{Adds, Prepares}
 use Rattle.trees.specs.declared.tree.Record.{Record}
 use Rattle.trees.specs.declared.tree.Tree.{Tree}
-use Rattle.trees.specs.Left.{OneLeft, TwoLeft, Left}
+use Rattle.trees.specs.Left.{OneLeft, TwoLeft}
 use Rattle.trees.specs.Records.{Built}
 use Rattle.growths.proofs.Halves.{stayed, low_refused, high_refused, halves_node}
 use Rattle.growths.proofs.Rooted.{grown_root}

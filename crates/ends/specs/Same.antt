@@ -1,7 +1,6 @@
-use Rattle.std.specs.Prelude.{◌≡◌, ℕ, ◌+◌, ◌*◌, ◌/◌, ◌%◌, ◌<◌, Some, Option, refl}
+use Rattle.std.specs.Prelude.{◌≡◌, ℕ, ◌<◌, Some, Option}
 use Rattle.std.proofs.Common.{ap, subst, ◌∙◌}
 use Rattle.std.proofs.Math.Bridge.{le_prop}
-use Rattle.ends.specs.declared.setting.Setting.{Setting}
 use Rattle.ends.specs.Codes.{setting}
 
 pub same_setting : (c w d v : ℕ) (kc : c < 16) (sw : w < 8) (kd : d < 16) (sv : v < 8) → c ≡ d → w ≡ v → setting c w kc sw ≡ setting d v kd sv

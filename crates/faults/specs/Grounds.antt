@@ -1,5 +1,5 @@
 -- The grounds of refusal: their numbers and layers.
-use Rattle.std.specs.Prelude.{ℕ, Bool, true, false, cond, nat_le}
+use Rattle.std.specs.Prelude.{ℕ, cond, nat_le}
 use Rattle.faults.specs.declared.fault.Ground.{Ground}
 use Rattle.faults.specs.declared.fault.Ground.TheVariants as ground
 use Rattle.faults.specs.declared.fault.Layer.{Layer}

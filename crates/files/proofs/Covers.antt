@@ -1,5 +1,5 @@
 -- An address is covered exactly when a range has it.
-use Rattle.std.proofs.Common.{◌≡◌, ℕ, zero, suc, ◌≤◌, true, ◌⊎◌, subst, inl, inr, arith, le-leb}
+use Rattle.std.proofs.Common.{◌≡◌, ℕ, zero, suc, ◌≤◌, true, subst, inl, inr, arith, le-leb}
 use Rattle.std.proofs.lemmas.Bool.Decides.{eqb_tells, leb_tells, nat_tests}
 use Rattle.files.specs.declared.format.Format.TheVariants.{Ranges}
 use Rattle.files.specs.Formats.{first_of, last_of}

@@ -1,5 +1,5 @@
 -- What an accepted map file means: its pins, and a code for each address.
-use Rattle.std.specs.Prelude.{ℕ, zero, suc, Bool, true, false, cond, ◌&&◌, ◌||◌, List, nat_le}
+use Rattle.std.specs.Prelude.{ℕ, zero, suc, Bool, false, cond, ◌&&◌, ◌||◌, List, nat_le}
 use Rattle.files.specs.declared.format.Format.{Format}
 use Rattle.files.specs.declared.format.Format.TheVariants.{Bits, Settings, Ranges}
 use Rattle.files.specs.Formats.{count_of, first_of, last_of, code_of}

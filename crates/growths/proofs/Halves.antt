@@ -1,5 +1,5 @@
 -- A growth by two halves and a node.
-use Rattle.std.proofs.Common.{◌≡◌, ℕ, suc, ◌+◌, ◌-◌, ◌<◌, ◌≤◌, Bool, true, false, List, length, Some, None, Option, sym, refl, ap, ◌∙◌, subst, ap₂, add-one, arith}
+use Rattle.std.proofs.Common.{◌≡◌, ℕ, suc, ◌+◌, ◌-◌, ◌<◌, Bool, true, false, List, Some, None, Option, sym, ap, ◌∙◌, subst, ap₂, add-one, arith}
 use Rattle.model.specs.declared.Branch.{Branch}
 use Rattle.model.specs.declared.Node.{Node}
 use Rattle.model.specs.Lists.{In}
@@ -9,7 +9,7 @@ use Rattle.model.specs.Diagrams.{Table, listed, next, From, tree}
 use Rattle.model.proofs.Parts.{level_halves}
 use Rattle.model.proofs.Least.{from_next}
 use Rattle.model.proofs.Grow.{tree_kept, passed}
-use Rattle.tables.specs.States.{Live, State, Grown, Parted, Holds, Fair, Outcome}
+use Rattle.tables.specs.States.{Live, State, Grown, Outcome}
 use Rattle.tables.specs.Additions.{Adds}
 use Rattle.tables.proofs.Growing.{grown_same, grown_twice, from_weaker, from_grown}
 

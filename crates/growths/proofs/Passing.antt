@@ -1,13 +1,12 @@
 -- Whether every code of a diagram passes.
-use Rattle.std.proofs.Common.{◌≡◌, ℕ, zero, suc, ◌+◌, ◌-◌, ◌^◌, ◌<◌, ◌≤◌, Bool, true, false, cond, ◌&&◌, eqb, ◌↔◌, List, [], ◌∷◌, length, get_or, Some, sym, refl, ap, ◌∙◌, subst, ap₂, inl, inr, arith}
-use Rattle.std.proofs.lemmas.Bool.{and_parts, and_from, both_ways, cases_Bool, eqb-true, eqb-false}
+use Rattle.std.proofs.Common.{◌≡◌, ℕ, zero, suc, ◌+◌, ◌-◌, ◌^◌, ◌<◌, ◌≤◌, Bool, true, false, cond, ◌&&◌, eqb, List, [], ◌∷◌, length, Some, sym, refl, ap, ◌∙◌, subst, inl, inr, arith}
+use Rattle.std.proofs.lemmas.Bool.{and_parts, and_from, both_ways, eqb-true, eqb-false}
 use Rattle.model.specs.declared.Branch.{Branch}
 use Rattle.model.specs.declared.Branch.TheVariants.{End as end, Node as node}
 use Rattle.model.specs.declared.Node.{Node}
 use Rattle.model.specs.Lists.{In}
-use Rattle.model.specs.Trees.{Tree, leaf, fork}
-use Rattle.model.specs.Selections.{Selection, Setting, all_low, put, address, pin, view, view_of, code_at}
-use Rattle.model.specs.Orders.{Order}
+use Rattle.model.specs.Trees.{Tree}
+use Rattle.model.specs.Selections.{Selection, Setting, all_low, put, address, pin, view, code_at}
 use Rattle.model.specs.Diagrams.{Table, listed, side, next, follow, From, Ordered, tree}
 use Rattle.model.proofs.Settings.{address_small}
 use Rattle.model.proofs.Views.{tree_reads}

@@ -1,9 +1,9 @@
 -- A branch with a pin set, by its halves.
-use Rattle.std.proofs.Common.{◌≡◌, ℕ, zero, suc, ◌+◌, ◌-◌, ◌<◌, ◌≤◌, Bool, true, false, cond, List, Some, None, Option, sym, refl, ap, ◌∙◌, subst, ap₂, add-one, arith}
+use Rattle.std.proofs.Common.{◌≡◌, ℕ, zero, suc, ◌+◌, ◌-◌, ◌<◌, ◌≤◌, Bool, true, false, cond, List, Some, None, Option, sym, refl, ap, ◌∙◌, subst, ap₂, arith}
 use Rattle.model.specs.declared.Branch.{Branch}
 use Rattle.model.specs.declared.Branch.TheVariants.{End as end}
 use Rattle.model.specs.declared.Node.{Node}
-use Rattle.model.specs.Trees.{Tree, leaf, fork}
+use Rattle.model.specs.Trees.{Tree, fork}
 use Rattle.model.specs.Joins.{strap}
 use Rattle.model.specs.Diagrams.{Table, listed, next, code, From, tree}
 use Rattle.model.proofs.Least.{from_next}

@@ -1,17 +1,17 @@
 -- Fronts that grow by several nodes.
-use Rattle.std.proofs.Common.{◌≡◌, ℕ, zero, suc, ◌+◌, ◌<◌, ◌≤◌, Bool, true, false, cond, not, eqb, ◌⊎◌, ◌↔◌, List, [], ◌∷◌, ◌++◌, length, get_or, take, replicate, Some, None, Option, sym, refl, ap, ◌∙◌, subst, ap₂, inl, inr, arith, take_all}
+use Rattle.std.proofs.Common.{◌≡◌, ℕ, zero, suc, ◌+◌, ◌<◌, ◌≤◌, Bool, true, false, cond, not, eqb, List, [], ◌∷◌, ◌++◌, length, get_or, take, replicate, sym, refl, ap, ◌∙◌, subst, ap₂, arith, take_all}
 use Rattle.std.proofs.lemmas.List.{append-nil, append_assoc, take_more, get_or-take, length-take-le}
 use Rattle.model.specs.declared.Branch.{Branch}
 use Rattle.model.specs.declared.Branch.TheVariants.{End as end, Node as node}
-use Rattle.model.specs.Lists.{In, Apart, keep, without, once, flat, held}
+use Rattle.model.specs.Lists.{In, without, once, flat, held}
 use Rattle.model.specs.Diagrams.{Table, next}
 use Rattle.model.proofs.Onces.{tells_eqb, keep_swap, keep_twice}
 use Rattle.tables.specs.declared.line.Line.{Line}
 use Rattle.tables.specs.declared.line.Line.TheVariants.{Empty, Held}
-use Rattle.tables.specs.Lines.{root, roots}
+use Rattle.tables.specs.Lines.{roots}
 use Rattle.tables.proofs.Marks.{root_held}
 use Rattle.tables.proofs.Walks.{in_getD}
-use Rattle.listings.specs.Fronts.{nodes_of, leads, Small, Front, Grown, Meets, MeetsBoth, MeetsLines, LeadsInside, AllShort, Advances}
+use Rattle.listings.specs.Fronts.{nodes_of, leads, Small, Grown, Meets, MeetsBoth, MeetsLines, LeadsInside, AllShort, Advances}
 
 without_once : (x : ℕ) (zs ys : List ℕ) → without eqb x (once eqb (without eqb x zs ++ ys)) ≡ without eqb x (once eqb (zs ++ ys))
 without_once x [] ys = refl

@@ -1,6 +1,6 @@
 -- A listing of 32 lines, written or refused.
-use Rattle.std.proofs.Common.{◌≡◌, ℕ, ◌+◌, ◌*◌, ◌<◌, ◌≤◌, List, [], ◌∷◌, ◌++◌, map, length, drop, Ok, Err, Option, Result, sym, refl, ap, ◌∙◌, subst, arith, length-append}
-use Rattle.std.proofs.lemmas.List.{length-map, drop_at}
+use Rattle.std.proofs.Common.{◌≡◌, ℕ, ◌+◌, ◌*◌, ◌<◌, ◌≤◌, List, [], ◌++◌, map, length, drop, Ok, Err, Option, sym, refl, ap, ◌∙◌, arith, length-append}
+use Rattle.std.proofs.lemmas.List.{drop_at}
 use Rattle.faults.specs.declared.fault.Fault.{Fault}
 use Rattle.faults.specs.declared.fault.Ground.TheVariants.{OrderLength, Buffer}
 use Rattle.faults.specs.Refusals.{at}
@@ -13,9 +13,9 @@ use Rattle.model.specs.Listings.{two_bytes, node_bytes, line_reference, bytes}
 use Rattle.tables.specs.declared.line.Line.{Line}
 use Rattle.tables.specs.Lines.{roots}
 use Rattle.tables.specs.Markings.{Diagram}
-use Rattle.listings.specs.Labels.{short, relabel, relabelled, labelled}
+use Rattle.listings.specs.Labels.{relabel, labelled}
 use Rattle.listings.specs.Numbers.{Numbers}
-use Rattle.listings.specs.Lists.{ListsLines, ListsBytes}
+use Rattle.listings.specs.Lists.{ListsLines}
 use Rattle.listings.proofs.Labelling.{labelled_is_listing}
 use Rattle.listings.proofs.Written.{nodes_length, lines_length}
 

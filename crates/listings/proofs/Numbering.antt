@@ -1,5 +1,5 @@
 -- Numbering from a front of nodes, each once.
-use Rattle.std.proofs.Common.{◌≡◌, ℕ, zero, suc, ◌+◌, ◌-◌, ◌*◌, ◌<◌, ◌≤◌, Bool, true, false, cond, eqb, ◌⊎◌, List, [], ◌∷◌, ◌++◌, map, length, get_or, take, Option, sym, refl, ap, ◌∙◌, subst, ap₂, inl, inr, arith, length-append}
+use Rattle.std.proofs.Common.{◌≡◌, ℕ, zero, suc, ◌+◌, ◌-◌, ◌<◌, ◌≤◌, Bool, true, false, cond, eqb, List, [], ◌∷◌, ◌++◌, map, length, take, Option, sym, refl, ap, ◌∙◌, subst, ap₂, inl, inr, arith, length-append}
 use Rattle.std.proofs.lemmas.List.{append-nil, append_assoc, length-take-le, take_at}
 use Rattle.model.specs.declared.Branch.{Branch}
 use Rattle.model.specs.declared.Branch.TheVariants.{End as end, Node as node}
@@ -11,12 +11,12 @@ use Rattle.model.proofs.Lists.{pigeonhole, in-++}
 use Rattle.model.proofs.Onces.{tells_eqb, tells_through, from_keep, once_apart, apart_once, once_map, from_once}
 use Rattle.model.proofs.Canon.{node_inj}
 use Rattle.model.proofs.Fronts.{tells_branch, same_front}
-use Rattle.model.proofs.Least.{from_next, no_node}
+use Rattle.model.proofs.Least.{from_next}
 use Rattle.model.proofs.Reach.{numbering_reaches, follow_in}
 use Rattle.model.proofs.Marks.{marked, in_marked, length_marked}
 use Rattle.tables.specs.Markings.{Diagram}
 use Rattle.tables.proofs.Marks.{in_table}
-use Rattle.listings.specs.Fronts.{nodes_of, leads, asks, Small, Front, Grown, MeetsLines, LeadsInside, AllShort, Advances, PicksAll}
+use Rattle.listings.specs.Fronts.{nodes_of, leads, asks, Small, MeetsLines, LeadsInside, AllShort, Advances, PicksAll}
 use Rattle.listings.specs.Numbers.{Ready, NumbersFrom, Inverts, Numbered}
 
 -- ends do not count

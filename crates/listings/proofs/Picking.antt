@@ -1,7 +1,7 @@
 -- Putting the nodes of a front that ask a pin behind those that have numbers.
 use Rattle.std.proofs.Common.{◌≡◌, ℕ, ◌+◌, ◌<◌, ◌≤◌, Bool, true, false, cond, List, [], ◌∷◌, ◌++◌, length, get_or, take, drop, set, sym, refl, ap, ◌∙◌, subst, inl, inr, arith, length-append}
 use Rattle.std.proofs.lemmas.List.{append-nil, append_assoc, take_more, take_more_set, length-take-le, take-append-drop, take-take}
-use Rattle.model.specs.Lists.{In, keep}
+use Rattle.model.specs.Lists.{keep}
 use Rattle.model.specs.Diagrams.{Table}
 use Rattle.model.proofs.Onces.{keep-++}
 use Rattle.listings.specs.Fronts.{asks, AllShort, Picks, PicksAll}

@@ -1,15 +1,14 @@
 -- Bytes written one behind the other.
-use Rattle.std.proofs.Common.{◌≡◌, ℕ, zero, suc, ◌+◌, ◌*◌, ◌<◌, ◌≤◌, List, [], ◌∷◌, ◌++◌, map, length, get_or, take, drop, set, Some, None, Option, sym, refl, ap, ◌∙◌, subst, ap₂, mul-suc, arith, length-append, take_all}
+use Rattle.std.proofs.Common.{◌≡◌, ℕ, ◌+◌, ◌*◌, ◌<◌, ◌≤◌, List, [], ◌∷◌, ◌++◌, map, length, get_or, take, set, Some, None, Option, sym, refl, ap, ◌∙◌, subst, mul-suc, arith, length-append, take_all}
 use Rattle.std.proofs.lemmas.List.{append-nil, append_assoc, take_more, take_more_set, length-map, map_push, length-take-le}
 use Rattle.model.specs.declared.Branch.{Branch}
 use Rattle.model.specs.declared.Branch.TheVariants.{End as end, Node as node}
 use Rattle.model.specs.declared.Node.{Node}
 use Rattle.model.specs.Lists.{flat, each}
 use Rattle.model.specs.Diagrams.{Table}
-use Rattle.model.specs.Layouts.{Layout}
 use Rattle.model.specs.Listings.{two_bytes, reference, line_reference, node_bytes, bytes}
 use Rattle.tables.specs.declared.line.Line.{Line}
-use Rattle.tables.specs.declared.line.Line.TheVariants.{Empty, Held}
+use Rattle.tables.specs.declared.line.Line.TheVariants.{Empty}
 use Rattle.tables.specs.Lines.{root, roots}
 use Rattle.listings.specs.Labels.{short, relabel, relabelled, labelled, Writes}
 

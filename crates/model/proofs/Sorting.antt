@@ -11,7 +11,6 @@ use Rattle.model.proofs.Onces.{Tells, from_keep, from_without}
 use Rattle.model.proofs.Trees.{same_eq, tells_same, same_of, from_halves}
 use Rattle.model.proofs.Parts.{front, from_front, from_parts}
 use Rattle.model.proofs.Settings.{bit_small}
-use Rattle.model.proofs.Least.{least}
 
 -- The number of values behind a line's own number compares as line, then values.
 

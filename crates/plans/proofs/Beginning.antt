@@ -1,9 +1,7 @@
 -- A new plan holds nothing.
-use Rattle.std.proofs.Common.{◌≡◌, ℕ, zero, suc, List, [], ◌∷◌, length, take, replicate, None, Option, sym, refl, ap, ◌∙◌, subst}
-use Rattle.model.specs.declared.Branch.{Branch}
+use Rattle.std.proofs.Common.{◌≡◌, ℕ, zero, suc, List, [], length, take, replicate, None, sym, refl, subst}
 use Rattle.model.specs.declared.Node.{Node}
 use Rattle.model.specs.Lists.{held, LineForLine}
-use Rattle.model.specs.Selections.{Selection}
 use Rattle.model.specs.Diagrams.{Table, Means, Reaches, listed}
 use Rattle.tables.specs.declared.line.Line.{Line}
 use Rattle.tables.specs.declared.line.Line.TheVariants.{Empty}

@@ -9,13 +9,13 @@ use Rattle.model.specs.Lists.{held}
 use Rattle.model.specs.Trees.{Tree}
 use Rattle.model.specs.Selections.{Selection, view_of}
 use Rattle.model.specs.Diagrams.{listed, Reached}
-use Rattle.tables.specs.declared.line.Line.TheVariants.{Empty, Held}
+use Rattle.tables.specs.declared.line.Line.TheVariants.{Empty}
 use Rattle.tables.specs.Lines.{roots}
 use Rattle.growths.specs.Growths.{Grew, Grows}
 use Rattle.plans.specs.declared.header.Header.{Header}
 use Rattle.plans.specs.Plain.{Plain, Call, pins, with_line, input_refusal, state_told, told, changed, work_size, too_many_parts}
 use Rattle.plans.specs.Holding.{Heads, Holds, Did}
-use Rattle.plans.specs.Settling.{Put, Settles}
+use Rattle.plans.specs.Settling.{Settles}
 use Rattle.plans.proofs.Holdings.{not_turned, at_header, heads_pins, diagram, roots_from}
 use Rattle.plans.proofs.Growings.{too_many, holds_new, few_enough, stands, kept_holds}
 use Rattle.plans.proofs.Rebuilding.{refused_leaves, accepted_leaves}

@@ -1,5 +1,5 @@
 -- Comparing two lines.
-use Rattle.std.proofs.Common.{◌≡◌, ℕ, ◌<◌, ◌≤◌, Bool, true, false, not, ◌↔◌, List, length, get_or, Some, None, Decides, Option, sym, refl, ap, ◌∙◌, subst, ap₂, arith}
+use Rattle.std.proofs.Common.{◌≡◌, ℕ, ◌<◌, Bool, true, not, List, get_or, Some, None, Decides, Option, sym, ap, ◌∙◌, subst, arith}
 use Rattle.std.proofs.lemmas.Bool.Decides.{nat_tests}
 use Rattle.faults.specs.declared.fault.Fault.{Fault}
 use Rattle.faults.specs.declared.fault.Ground.TheVariants.{LineEmpty}
@@ -7,7 +7,7 @@ use Rattle.faults.specs.Refusals.{at, refuse_if}
 use Rattle.model.specs.declared.Branch.{Branch}
 use Rattle.model.specs.declared.Node.{Node}
 use Rattle.model.specs.Selections.{Selection, Agrees, Alike}
-use Rattle.model.specs.Diagrams.{listed, meant}
+use Rattle.model.specs.Diagrams.{listed}
 use Rattle.model.proofs.Reach.{one_root}
 use Rattle.tables.specs.declared.line.Line.TheVariants.{Empty, Held}
 use Rattle.plans.specs.declared.header.Header.{Header}

@@ -1,26 +1,21 @@
 -- Drawing on a line.
-use Rattle.std.proofs.Common.{◌≡◌, ℕ, ◌+◌, ◌*◌, ◌<◌, ◌≤◌, Bool, true, false, not, ltb, List, length, get_or, Some, None, Ok, Err, Option, Result, sym, refl, ap, ◌∙◌, subst, ap₂, mul-le-mul_right, arith, le-ltb, lt-ltb}
+use Rattle.std.proofs.Common.{◌≡◌, ℕ, ◌+◌, ◌*◌, ◌<◌, ◌≤◌, ltb, List, length, get_or, Some, None, Err, Option, Result, sym, refl, ap, ◌∙◌, subst, ap₂, arith, le-ltb, lt-ltb}
 use Rattle.std.proofs.lemmas.Bool.Decides.{nat_tests}
 use Rattle.faults.specs.declared.fault.Fault.{Fault}
-use Rattle.faults.specs.declared.fault.Ground.TheVariants.{LineTaken, TreeTable, Parts}
-use Rattle.faults.specs.Refusals.{at, or_else, refuse_if}
+use Rattle.faults.specs.declared.fault.Ground.TheVariants.{LineTaken, TreeTable}
+use Rattle.faults.specs.Refusals.{at, refuse_if}
 use Rattle.model.specs.declared.Branch.{Branch}
 use Rattle.model.specs.declared.Node.{Node}
-use Rattle.model.specs.Lists.{held}
 use Rattle.model.specs.Selections.{Selection, view_of}
-use Rattle.model.specs.Diagrams.{listed, Reached}
 use Rattle.tables.specs.declared.line.Line.TheVariants.{Empty, Held}
 use Rattle.tables.specs.Lines.{roots}
-use Rattle.trees.specs.declared.tree.Record.{Record}
-use Rattle.trees.specs.declared.tree.Tree.{Tree}
 use Rattle.trees.specs.Mixed.{mixed_blocks}
-use Rattle.trees.specs.Records.{Built}
-use Rattle.growths.specs.Growths.{Grew, Grows}
+use Rattle.growths.specs.Growths.{Grows}
 use Rattle.plans.specs.declared.header.Header.{Header}
-use Rattle.plans.specs.Plain.{Plain, Call, draw, pins, line, is_held, with_line, used_of, input_refusal, input_told, state_told, told, work_size, changed, line_taken, too_many_parts}
-use Rattle.plans.specs.Holding.{Heads, Holds, Did, order_of}
-use Rattle.plans.specs.Settling.{Put, Settles}
-use Rattle.plans.proofs.Holdings.{none_some, not_turned, at_header, heads_pins, diagram, roots_from, held_line, empty_line}
+use Rattle.plans.specs.Plain.{Plain, Call, draw, pins, is_held, input_refusal, state_told, work_size, too_many_parts}
+use Rattle.plans.specs.Holding.{Holds, Did, order_of}
+use Rattle.plans.specs.Settling.{Settles}
+use Rattle.plans.proofs.Holdings.{heads_pins, held_line, empty_line}
 use Rattle.plans.proofs.Changing.{turned_did, state_did, work_enough, grown_beside, settled_call}
 
 pub turned_draw : (h : Header) (nodes : List Node) (d x m : ℕ) (f : Selection) (tree work : ℕ) → x ≡ m → (g : Fault) → Some g ≡ input_refusal h.pins h.size (draw d x f (length nodes) tree work)

@@ -1,26 +1,25 @@
 -- A new line, grown beside those that a plan holds.
-use Rattle.std.proofs.Common.{◌≡◌, ℕ, zero, suc, ◌+◌, ◌*◌, ◌<◌, ◌≤◌, Bool, true, false, ltb, ◌⊎◌, ◌↔◌, List, [], ◌∷◌, map, length, get_or, set, Some, None, Option, sym, refl, ap, ◌∙◌, subst, inl, inr, arith, le-ltb, lt-ltb}
+use Rattle.std.proofs.Common.{◌≡◌, ℕ, zero, suc, ◌<◌, true, false, ltb, List, [], ◌∷◌, map, length, get_or, set, Some, None, Option, sym, refl, ap, ◌∙◌, subst, inl, inr, arith, le-ltb, lt-ltb}
 use Rattle.model.specs.declared.Branch.{Branch}
 use Rattle.model.specs.declared.Node.{Node}
 use Rattle.model.specs.Lists.{In, held, each, LineForLine}
 use Rattle.model.specs.Trees.{Tree}
-use Rattle.model.specs.Parts.{used}
 use Rattle.model.specs.Orders.{Order}
 use Rattle.model.specs.Selections.{Selection, view_of, views}
-use Rattle.model.specs.Diagrams.{Table, listed, side, tree, Means, From, Ordered, Reduced, Reached, Reaches}
+use Rattle.model.specs.Diagrams.{Table, listed, side, tree, Means, From, Ordered, Reduced, Reached}
 use Rattle.model.proofs.Lists.{pigeonhole, in_map, from_map, in_held, from_held, held_map, in_cast}
 use Rattle.model.proofs.Grow.{follow_kept, from_wider}
 use Rattle.model.proofs.Walks.{tree_means}
-use Rattle.model.proofs.Reach.{means_views, used_is_exact, follow_in}
+use Rattle.model.proofs.Reach.{means_views, follow_in}
 use Rattle.tables.specs.declared.line.Line.{Line}
 use Rattle.tables.specs.declared.line.Line.TheVariants.{Empty, Held}
-use Rattle.tables.specs.Lines.{root, roots}
+use Rattle.tables.specs.Lines.{roots}
 use Rattle.tables.specs.Markings.{Diagram}
 use Rattle.tables.proofs.Counts.{live_list, from_live, apart_live, counts_filled, filled_le, in_live}
-use Rattle.growths.specs.Growths.{Grew, Grows}
+use Rattle.growths.specs.Growths.{Grew}
 use Rattle.growths.proofs.Rooted.{root_refused, grown_diagram, reached_kept, root_kept, root_new}
 use Rattle.plans.specs.declared.header.Header.{Header}
-use Rattle.plans.specs.Plain.{Plain, pins, line, with_line, used_of}
+use Rattle.plans.specs.Plain.{Plain, pins, with_line, used_of}
 use Rattle.plans.specs.Holding.{Holds}
 use Rattle.plans.specs.Settling.{Put}
 use Rattle.plans.proofs.Holdings.{order_is, diagram, roots_from, empty_line}

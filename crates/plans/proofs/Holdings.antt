@@ -1,6 +1,5 @@
 -- What a held plain plan says of the header and the table.
-use Rattle.std.proofs.Common.{◌≡◌, ℕ, zero, suc, ◌+◌, ◌-◌, ◌^◌, ◌<◌, ◌≤◌, Bool, true, false, cond, not, eqb, ltb, leb, ◌⊎◌, List, [], ◌∷◌, map, length, get_or, take, Some, None, Option, sym, refl, ap, ◌∙◌, subst, ap₂, inl, inr, arith, length-take}
-use Rattle.std.proofs.lemmas.Bool.Decides.{eqb_tells, leb_tells, nat_tests}
+use Rattle.std.proofs.Common.{◌≡◌, ℕ, zero, suc, ◌<◌, true, not, List, [], ◌∷◌, length, get_or, Some, None, Option, sym, refl, ap, ◌∙◌, subst, ap₂, inl, inr, arith, length-take}
 use Rattle.faults.specs.declared.fault.Fault.{Fault}
 use Rattle.faults.specs.declared.fault.Ground.TheVariants.{LineEmpty}
 use Rattle.faults.specs.Refusals.{at, or_else, refuse_if, is_none}
@@ -10,14 +9,14 @@ use Rattle.model.specs.declared.Node.{Node}
 use Rattle.model.specs.Lists.{In, held, LineForLine}
 use Rattle.model.specs.Orders.{Order}
 use Rattle.model.specs.Selections.{Selection, Agrees}
-use Rattle.model.specs.Diagrams.{Table, listed, meant, Means, From, Ordered, Reaches, Reached}
+use Rattle.model.specs.Diagrams.{Table, listed, meant, Means, From}
 use Rattle.tables.specs.declared.line.Line.{Line}
 use Rattle.tables.specs.declared.line.Line.TheVariants.{Empty, Held}
 use Rattle.tables.specs.Lines.{root, roots}
 use Rattle.tables.specs.Markings.{Diagram}
 use Rattle.plans.specs.declared.header.Header.{Header}
 use Rattle.plans.specs.Orders.{misplaced_below}
-use Rattle.plans.specs.Plain.{Plain, pins, line, line_empty, is_held, no_line}
+use Rattle.plans.specs.Plain.{Plain, pins, line, line_empty, is_held}
 use Rattle.plans.specs.Holding.{Heads, Holds, order_of}
 use Rattle.plans.proofs.Naming.{is_order}
 

@@ -1,5 +1,5 @@
 -- Joining two lines.
-use Rattle.std.proofs.Common.{◌≡◌, ℕ, zero, suc, ◌+◌, ◌*◌, ◌^◌, ◌<◌, ◌≤◌, Bool, true, false, not, ◌||◌, ◌⊎◌, ◌↔◌, List, length, get_or, Some, None, Ok, Err, Option, Result, sym, refl, ap, ◌∙◌, subst, ap₂, inl, inr, arith}
+use Rattle.std.proofs.Common.{◌≡◌, ℕ, zero, suc, ◌+◌, ◌*◌, ◌^◌, ◌<◌, ◌≤◌, Bool, true, false, not, ◌||◌, List, length, get_or, Some, None, Ok, Err, Option, Result, sym, refl, ap, ◌∙◌, subst, ap₂, inl, inr, arith}
 use Rattle.std.proofs.lemmas.Bool.Decides.{nat_tests, eqb_tells}
 use Rattle.faults.specs.declared.fault.Fault.{Fault}
 use Rattle.faults.specs.declared.fault.Ground.TheVariants.{LineEmpty, LineTaken, Undecoded}
@@ -21,7 +21,7 @@ use Rattle.growths.proofs.Passing.{every_address_passes}
 use Rattle.plans.specs.declared.header.Header.{Header}
 use Rattle.plans.specs.Plain.{Plain, Call, join, pins, line, is_held, with_line, join_lines, undecoded, line_undecoded, input_refusal, work_size, too_many_parts}
 use Rattle.plans.specs.Decoding.{Checks}
-use Rattle.plans.specs.Holding.{Holds, Did, order_of}
+use Rattle.plans.specs.Holding.{Holds, Did}
 use Rattle.plans.specs.Results.{refusal}
 use Rattle.plans.specs.Settling.{Settles}
 use Rattle.plans.proofs.Holdings.{heads_pins, diagram, roots_from, held_line, empty_line, root_stands, order_is}

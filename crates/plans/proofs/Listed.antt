@@ -1,26 +1,25 @@
 -- Listing a plan.
-use Rattle.std.proofs.Common.{◌≡◌, ℕ, suc, ◌+◌, ◌*◌, ◌<◌, ◌≤◌, Bool, ltb, ◌↔◌, List, [], ◌∷◌, ◌++◌, length, drop, Some, None, Ok, Err, Option, Result, sym, refl, ap, ◌∙◌, subst, mul-le-mul_right, arith, le-ltb, lt-ltb}
+use Rattle.std.proofs.Common.{◌≡◌, ℕ, suc, ◌+◌, ◌*◌, ◌≤◌, ltb, ◌↔◌, List, [], ◌∷◌, ◌++◌, length, drop, Some, None, Ok, Err, Result, sym, refl, ap, ◌∙◌, subst, mul-le-mul_right, arith, le-ltb, lt-ltb}
 use Rattle.std.proofs.lemmas.Bool.Decides.{nat_tests}
 use Rattle.std.proofs.lemmas.List.{length-map}
 use Rattle.faults.specs.declared.fault.Fault.{Fault}
 use Rattle.faults.specs.declared.fault.Ground.TheVariants.{Buffer}
 use Rattle.faults.specs.Refusals.{at, refuse_if, or_else}
 use Rattle.model.specs.declared.Node.{Node}
-use Rattle.model.specs.Lists.{held, each, LineForLine}
-use Rattle.model.specs.Orders.{Order}
-use Rattle.model.specs.Selections.{Selection, views, view_of, Alike}
+use Rattle.model.specs.Lists.{each, LineForLine}
+use Rattle.model.specs.Selections.{views, view_of, Alike}
 use Rattle.model.specs.Diagrams.{listed, Means}
 use Rattle.model.specs.Layouts.{layout, listing}
 use Rattle.model.specs.Listings.{bytes}
-use Rattle.model.proofs.Lists.{from_held, in_held}
+use Rattle.model.proofs.Lists.{in_held}
 use Rattle.model.proofs.Bytes.{bytes_length, bytes_tell_selections}
 use Rattle.model.proofs.Laying.{listing_of_selections}
 use Rattle.tables.specs.declared.line.Line.{Line}
 use Rattle.tables.specs.Lines.{root, roots}
 use Rattle.listings.specs.Lists.{ListsLines, ListsBytes}
 use Rattle.plans.specs.declared.header.Header.{Header}
-use Rattle.plans.specs.Plain.{Plain, pins, used_of, other_tables, work_size}
-use Rattle.plans.specs.Holding.{Heads, Holds, ToldValue, order_of}
+use Rattle.plans.specs.Plain.{Plain, pins, other_tables, work_size}
+use Rattle.plans.specs.Holding.{Holds, ToldValue, order_of}
 use Rattle.plans.specs.Listing.{listing_of, listing_length, list_told, Lists, ListingsTell}
 use Rattle.plans.proofs.Holdings.{at_header, heads_pins, not_turned, order_is, diagram, roots_from}
 

@@ -1,13 +1,12 @@
 -- A plan holds again after a line was changed.
-use Rattle.std.proofs.Common.{◌≡◌, ℕ, zero, suc, ◌<◌, ◌≤◌, Bool, true, false, cond, ◌⊎◌, List, [], ◌∷◌, length, get_or, set, Some, None, Option, sym, refl, ap, ◌∙◌, subst, inl, inr, arith}
+use Rattle.std.proofs.Common.{◌≡◌, ℕ, zero, suc, cond, ◌⊎◌, List, [], ◌∷◌, length, set, Some, None, Option, sym, ap, ◌∙◌, subst, inl, inr}
 use Rattle.faults.specs.declared.fault.Fault.{Fault}
 use Rattle.faults.specs.Refusals.{is_none}
 use Rattle.model.specs.declared.Branch.{Branch}
-use Rattle.model.specs.declared.Branch.TheVariants.{End as end, Node as node}
 use Rattle.model.specs.declared.Node.{Node}
 use Rattle.model.specs.Lists.{In, held, LineForLine}
 use Rattle.model.specs.Selections.{Selection}
-use Rattle.model.specs.Diagrams.{Table, listed, Means, From, Ordered, Reduced, Reached, Reaches}
+use Rattle.model.specs.Diagrams.{listed, Means, From, Ordered, Reduced, Reaches}
 use Rattle.model.specs.Numberings.{numbering}
 use Rattle.model.proofs.Reach.{numbering_reaches, ordered_reached, follow_in}
 use Rattle.tables.specs.declared.line.Line.{Line}

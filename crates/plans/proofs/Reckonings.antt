@@ -1,5 +1,5 @@
 -- Counting what is reached.
-use Rattle.std.proofs.Common.{◌≡◌, ℕ, zero, suc, ◌+◌, ◌<◌, ◌≤◌, Bool, true, ◌⊎◌, ◌↔◌, List, [], ◌∷◌, map, length, get_or, Some, None, Option, sym, refl, ap, ◌∙◌, subst, inl, inr, arith}
+use Rattle.std.proofs.Common.{◌≡◌, ℕ, zero, suc, ◌<◌, ◌≤◌, Bool, List, [], ◌∷◌, length, get_or, Some, None, Option, sym, ap, ◌∙◌, subst, inl, inr, arith}
 use Rattle.std.proofs.lemmas.Bool.Decides.{nat_tests}
 use Rattle.faults.specs.declared.fault.Fault.{Fault}
 use Rattle.faults.specs.declared.fault.Ground.TheVariants.{LineEmpty}
@@ -7,17 +7,15 @@ use Rattle.faults.specs.Refusals.{at}
 use Rattle.model.specs.declared.Branch.{Branch}
 use Rattle.model.specs.declared.Branch.TheVariants.{Node as node}
 use Rattle.model.specs.declared.Node.{Node}
-use Rattle.model.specs.Lists.{In, held, LineForLine}
-use Rattle.model.specs.Parts.{used}
-use Rattle.model.specs.Selections.{Selection, views}
-use Rattle.model.specs.Diagrams.{listed, follow, Means, From, Ordered, Reduced, Reached, Reaches}
+use Rattle.model.specs.Lists.{In, LineForLine}
+use Rattle.model.specs.Selections.{Selection}
+use Rattle.model.specs.Diagrams.{listed, follow, Means, From, Reduced, Reached, Reaches}
 use Rattle.model.specs.Numberings.{numbering}
 use Rattle.model.proofs.Reach.{used_is_exact, numbering_reaches, ordered_reached}
-use Rattle.tables.specs.declared.line.Line.{Line}
 use Rattle.tables.specs.declared.line.Line.TheVariants.{Empty, Held}
 use Rattle.tables.specs.Lines.{roots}
 use Rattle.tables.specs.Indexes.{filled}
-use Rattle.tables.specs.Markings.{Diagram, MarkedFrom, MarksRoots, Counts}
+use Rattle.tables.specs.Markings.{MarksRoots, Counts}
 use Rattle.plans.specs.declared.header.Header.{Header}
 use Rattle.plans.specs.Plain.{Plain, pins, line, used_of, count_line, count_refusal, count_told}
 use Rattle.plans.specs.Holding.{Holds}

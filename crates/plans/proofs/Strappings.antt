@@ -1,5 +1,5 @@
 -- Strapping a line.
-use Rattle.std.proofs.Common.{◌≡◌, ℕ, ◌+◌, ◌*◌, ◌<◌, ◌≤◌, Bool, not, List, length, get_or, Some, None, Ok, Err, Option, Result, sym, refl, ap, ◌∙◌, subst, ap₂, arith}
+use Rattle.std.proofs.Common.{◌≡◌, ℕ, ◌+◌, ◌*◌, ◌<◌, ◌≤◌, Bool, not, List, length, get_or, Some, None, Err, Option, Result, sym, refl, ap, ◌∙◌, subst, ap₂, arith}
 use Rattle.std.proofs.lemmas.Bool.Decides.{nat_tests}
 use Rattle.faults.specs.declared.fault.Fault.{Fault}
 use Rattle.faults.specs.declared.fault.Ground.TheVariants.{LineEmpty, LineTaken}
@@ -17,7 +17,7 @@ use Rattle.tables.specs.declared.line.Line.TheVariants.{Empty, Held}
 use Rattle.tables.specs.Lines.{roots}
 use Rattle.growths.specs.Growths.{Grows}
 use Rattle.plans.specs.declared.header.Header.{Header}
-use Rattle.plans.specs.Plain.{Plain, Call, strap, pins, line, is_held, with_line, strap_line, input_refusal, state_told, work_size, line_empty, line_taken, too_many_parts}
+use Rattle.plans.specs.Plain.{Plain, Call, strap, pins, line, is_held, with_line, strap_line, input_refusal, work_size, too_many_parts}
 use Rattle.plans.specs.Holding.{Holds, Did, order_of}
 use Rattle.plans.specs.Settling.{Settles}
 use Rattle.plans.proofs.Holdings.{heads_pins, held_line, empty_line, root_stands, order_is}

@@ -1,5 +1,5 @@
 -- What it means that a plan and its node table hold a plain plan.
-use Rattle.std.specs.Prelude.{◌≡◌, ℕ, ◌<◌, ◌≤◌, Bool, List, length, take, Some, None, Err, Decides, Option, Result, MatchResult}
+use Rattle.std.specs.Prelude.{◌≡◌, ℕ, Bool, List, length, take, Some, None, Err, Decides, Option, Result, MatchResult}
 use Rattle.faults.specs.declared.fault.Fault.{Fault}
 use Rattle.model.specs.declared.Node.{Node}
 use Rattle.model.specs.Lists.{In, held, LineForLine}

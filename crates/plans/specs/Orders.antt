@@ -1,5 +1,5 @@
 -- Whether a list of numbers is an order of pins, as a test.
-use Rattle.std.specs.Prelude.{◌≡◌, ℕ, zero, suc, Bool, true, false, ◌||◌, ◌↔◌, List, length, None, Option, ◌==◌, nat_le, slice_index}
+use Rattle.std.specs.Prelude.{◌≡◌, ℕ, zero, suc, Bool, false, ◌||◌, ◌↔◌, List, length, None, Option, ◌==◌, nat_le, slice_index}
 use Rattle.faults.specs.declared.fault.Fault.{Fault}
 use Rattle.faults.specs.declared.fault.Ground.TheVariants.{OrderPin}
 use Rattle.faults.specs.Refusals.{at, refuse_if, or_else}

@@ -1,11 +1,11 @@
 -- The plain plan: what a plan means, what a call tells, and what it leaves.
-use Rattle.std.specs.Prelude.{◌≡◌, ℕ, zero, suc, ◌+◌, ◌*◌, ◌^◌, Bool, true, false, cond, not, ◌&&◌, ◌||◌, List, [], ◌∷◌, length, replicate, Some, None, Option, ◌==◌, nat_le, nat_lt, slice_index_or, slice_set}
+use Rattle.std.specs.Prelude.{ℕ, zero, suc, ◌+◌, ◌*◌, ◌^◌, Bool, true, false, cond, not, ◌||◌, List, [], ◌∷◌, length, replicate, Some, None, Option, ◌==◌, nat_le, nat_lt, slice_index_or, slice_set}
 use Rattle.faults.specs.declared.fault.Fault.{Fault}
 use Rattle.faults.specs.declared.fault.Ground.TheVariants as ground
 use Rattle.faults.specs.Refusals.{at, refuse_if, or_else, is_none}
 use Rattle.model.specs.Lists.{held}
-use Rattle.model.specs.Parts.{used, count}
-use Rattle.model.specs.Selections.{Selection, view_of, views}
+use Rattle.model.specs.Parts.{used}
+use Rattle.model.specs.Selections.{Selection, views}
 use Rattle.model.specs.Joins.{joined, strapped}
 use Rattle.trees.specs.Mixed.{mixed_blocks}
 use Rattle.plans.specs.Orders.{misplaced_below}

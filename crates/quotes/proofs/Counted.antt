@@ -1,11 +1,9 @@
 -- Quoting: the plan is made, the map is drawn, and its line is counted.
-use Rattle.std.proofs.Common.{◌≡◌, ℕ, zero, suc, ◌+◌, ◌*◌, ◌<◌, ◌≤◌, Bool, true, false, cond, ◌&&◌, ltb, ◌⊎◌, List, [], ◌∷◌, length, Some, None, Ok, Err, Option, Result, sym, refl, ap, ◌∙◌, subst, inl, inr, arith, le-ltb}
+use Rattle.std.proofs.Common.{◌≡◌, ℕ, zero, suc, ◌≤◌, Bool, true, false, cond, ◌&&◌, List, length, Some, None, Ok, Err, Option, Result, sym, refl, ap, ◌∙◌, subst, inl, inr, arith, le-ltb}
 use Rattle.std.proofs.lemmas.Bool.Decides.{eqb_tells}
 use Rattle.faults.specs.declared.fault.Fault.{Fault}
-use Rattle.faults.specs.declared.fault.Ground.TheVariants.{Work}
-use Rattle.faults.specs.Refusals.{at, or_else, is_none, refuse_if}
+use Rattle.faults.specs.Refusals.{or_else, is_none}
 use Rattle.model.specs.declared.Node.{Node}
-use Rattle.model.specs.Selections.{Selection}
 use Rattle.files.specs.declared.format.Format.TheVariants.{Bits}
 use Rattle.files.specs.Formats.{pins_of}
 use Rattle.files.specs.Verdict.{fault}
@@ -13,10 +11,10 @@ use Rattle.ends.specs.Codes.{bit_code}
 use Rattle.readers.specs.Selections.{bit_at}
 use Rattle.trees.specs.Mixed.{codes}
 use Rattle.plans.specs.declared.header.Header.{Header}
-use Rattle.plans.specs.Plain.{Plain, Call, pins, empty_plan, make_told, told, after, changed, input_told, state_told, count_told, count_refusal, count_line, line_empty, work_size}
+use Rattle.plans.specs.Plain.{pins, empty_plan, make_told, told, after, changed, input_told, state_told, count_told, work_size}
 use Rattle.plans.specs.Holding.{Holds, Did, Counts}
 use Rattle.plans.proofs.Drawings.{draw_work}
-use Rattle.quotes.specs.Quotes.{address_order, quote_plan, quote_call, quote_told, quote_count, Drawn, Quoted}
+use Rattle.quotes.specs.Quotes.{address_order, quote_plan, quote_call, quote_told, Drawn, Quoted}
 
 -- a test of the numbers from 1 to k, computed at once
 every : (ℕ → Bool) → ℕ → Bool

@@ -1,5 +1,5 @@
 -- What is quoted for a switch file of bits: its map is drawn on line 0 in address order.
-use Rattle.std.specs.Prelude.{◌≡◌, ℕ, Bool, cond, List, [], ◌∷◌, length, take, Some, None, Option, Result, MatchResult}
+use Rattle.std.specs.Prelude.{◌≡◌, ℕ, List, [], ◌∷◌, take, Some, None, Option, Result, MatchResult}
 use Rattle.faults.specs.declared.fault.Fault.{Fault}
 use Rattle.faults.specs.Refusals.{or_else}
 use Rattle.ends.specs.Codes.{bit_code}

@@ -1,15 +1,14 @@
 -- The changes of an accepted file rise, and give the codes that it means.
-use Rattle.std.proofs.Common.{◌≡◌, ℕ, zero, suc, ◌+◌, ◌-◌, ◌*◌, ◌/◌, ◌%◌, ◌^◌, ◌<◌, ◌≤◌, Bool, true, false, cond, ◌&&◌, ◌||◌, eqb, leb, ◌⊎◌, ◌↔◌, List, sym, refl, ap, ◌∙◌, subst, inl, inr, add-one, arith, eq-eqb, ne_eqb, le-leb, leb-true}
-use borrow.Author.Tests.{lt-leb}
-use Rattle.std.proofs.lemmas.Bool.Decides.{eqb_tells, leb_tells, nat_tests}
+use Rattle.std.proofs.Common.{◌≡◌, ℕ, ◌+◌, ◌-◌, ◌*◌, ◌/◌, ◌%◌, ◌<◌, ◌≤◌, Bool, true, false, cond, eqb, ◌⊎◌, List, sym, refl, ap, ◌∙◌, subst, inl, inr, arith, eq-eqb, ne_eqb}
+use Rattle.std.proofs.lemmas.Bool.Decides.{eqb_tells, leb_tells}
 use Rattle.files.specs.declared.format.Format.{Format}
 use Rattle.files.specs.declared.format.Format.TheVariants.{Bits, Settings, Ranges}
 use Rattle.files.specs.Formats.{count_of, first_of, last_of, code_of}
-use Rattle.files.specs.Rules.{SwitchesObey, RangesObey, EntriesObey, Obeys}
-use Rattle.files.specs.Meaning.{last_at, covered, meaning, switched}
+use Rattle.files.specs.Rules.{SwitchesObey, RangesObey, EntriesObey}
+use Rattle.files.specs.Meaning.{last_at, covered, meaning}
 use Rattle.readers.specs.Changes.{change_at, change_count, changed, Steps}
 use Rattle.files.specs.Theorems.{Last}
-use Rattle.files.proofs.Lasts.{last_told, told_last}
+use Rattle.files.proofs.Lasts.{last_told}
 use Rattle.files.proofs.Covers.{covered_told}
 use Rattle.readers.proofs.Rising.{climbing}
 

@@ -1,5 +1,5 @@
 -- A map file of any format as a first code and a row of changes, each at an address.
-use Rattle.std.specs.Prelude.{◌≡◌, ℕ, ◌+◌, ◌*◌, ◌/◌, ◌%◌, ◌<◌, ◌≤◌, Bool, true, false, cond, List, ◌==◌, ◌≢◌}
+use Rattle.std.specs.Prelude.{◌≡◌, ℕ, ◌+◌, ◌*◌, ◌/◌, ◌%◌, ◌<◌, ◌≤◌, cond, List, ◌==◌, ◌≢◌}
 use Rattle.files.specs.declared.format.Format.{Format}
 use Rattle.files.specs.declared.format.Format.TheVariants.{Bits, Settings, Ranges}
 use Rattle.files.specs.Formats.{count_of, first_of, last_of, code_of}

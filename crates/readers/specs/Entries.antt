@@ -1,5 +1,5 @@
 -- The entries of a map file, as a reader gives them.
-use Rattle.std.specs.Prelude.{ℕ, Bool, cond, ◌&&◌, List, Some, None, Option, nat_le}
+use Rattle.std.specs.Prelude.{ℕ, cond, ◌&&◌, List, Some, None, Option, nat_le}
 use Rattle.readers.specs.declared.entry.Range.{Range}
 use Rattle.readers.specs.declared.entry.Switch.{Switch}
 use Rattle.files.specs.declared.format.Format.{Format}

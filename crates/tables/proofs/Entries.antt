@@ -1,10 +1,10 @@
 -- Entering nodes into the index.
-use Rattle.std.proofs.Common.{◌≡◌, ℕ, suc, ◌+◌, ◌-◌, ◌%◌, ◌<◌, ◌≤◌, ◌⊎◌, List, length, get_or, take, set, sym, refl, ap, ◌∙◌, subst, inl, inr, arith, length-set, get_or-set_other, get_or-set_same}
+use Rattle.std.proofs.Common.{◌≡◌, ℕ, ◌+◌, ◌-◌, ◌<◌, ◌≤◌, ◌⊎◌, List, length, get_or, set, sym, refl, ap, ◌∙◌, subst, inl, inr, arith, length-set, get_or-set_other, get_or-set_same}
 use Rattle.std.proofs.lemmas.Bool.{cases_eq, cases_order}
 use Rattle.std.proofs.lemmas.List.{take_all}
 use Rattle.model.specs.declared.Node.{Node}
 use Rattle.model.specs.Diagrams.{listed, Ordered, Reduced}
-use Rattle.tables.specs.Indexes.{spread, probe, nonzero, filled, Leads, Indexed}
+use Rattle.tables.specs.Indexes.{probe, nonzero, filled, Leads}
 use Rattle.tables.specs.States.{Live, State}
 use Rattle.tables.specs.Probes.{Missed, Vacancy, Entered, Entering}
 use Rattle.tables.proofs.Marks.{live_inside, live_set}

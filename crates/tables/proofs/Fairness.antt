@@ -1,23 +1,22 @@
 -- What a node of a place with two branches comes to.
-use Rattle.std.proofs.Common.{◌≡◌, ℕ, suc, ◌+◌, ◌-◌, ◌<◌, ◌≤◌, Bool, true, false, ◌⊎◌, List, length, get_or, set, Some, None, Option, sym, refl, ap, ◌∙◌, subst, ap₂, inl, inr, zero-add, arith, length-set, get_or-set_other, get_or-set_same}
+use Rattle.std.proofs.Common.{◌≡◌, ℕ, suc, ◌+◌, ◌-◌, ◌<◌, Bool, true, false, List, length, get_or, set, Some, None, sym, refl, ap, ◌∙◌, subst, ap₂, inl, inr, zero-add, arith, length-set, get_or-set_other, get_or-set_same}
 use Rattle.std.proofs.lemmas.Bool.{not_from_false}
 use Rattle.model.specs.declared.Branch.{Branch}
-use Rattle.model.specs.declared.Branch.TheVariants.{End as end, Node as node}
+use Rattle.model.specs.declared.Branch.TheVariants.{Node as node}
 use Rattle.model.specs.declared.Node.{Node}
 use Rattle.model.specs.Lists.{In}
 use Rattle.model.specs.Trees.{Tree, fork, same, matters}
 use Rattle.model.specs.Parts.{Part, parts, level, used}
-use Rattle.model.specs.Diagrams.{Table, blank, listed, side, key, From, Ordered, Reduced, tree}
+use Rattle.model.specs.Diagrams.{Table, blank, listed, side, key, From, tree}
 use Rattle.model.proofs.Lists.{in_cast}
 use Rattle.model.proofs.Trees.{same_ne, fork_left, fork_right}
 use Rattle.model.proofs.Parts.{level_part}
 use Rattle.model.proofs.Least.{key_is}
 use Rattle.model.proofs.Canon.{told}
 use Rattle.model.proofs.Grow.{Agree, More, tree_kept, ordered_more, reduced_more, made, passed, one_part_more}
-use Rattle.tables.specs.Indexes.{Indexed}
-use Rattle.tables.specs.States.{Live, State, Grown, Parted, Outcome}
+use Rattle.tables.specs.States.{Live, State, Parted, Outcome}
 use Rattle.tables.specs.Probes.{Vacancy}
-use Rattle.tables.proofs.Marks.{live_inside, live_set, set_live, live_or}
+use Rattle.tables.proofs.Marks.{live_set, set_live, live_or}
 use Rattle.tables.proofs.Counts.{filled_set, live_list, in_live, from_live, apart_live, all_live}
 use Rattle.tables.proofs.Entries.{entered_more, not_there}
 use Rattle.tables.proofs.Growing.{grown_same, from_weaker, ordered_iff, reduced_iff}

@@ -1,5 +1,5 @@
 -- Tables that stay or grow.
-use Rattle.std.proofs.Common.{◌≡◌, ℕ, suc, ◌<◌, ◌≤◌, List, sym, refl, ◌∙◌, arith}
+use Rattle.std.proofs.Common.{ℕ, suc, ◌≤◌, List, sym, refl, ◌∙◌, arith}
 use Rattle.model.specs.declared.Branch.{Branch}
 use Rattle.model.specs.declared.Branch.TheVariants.{End as end, Node as node}
 use Rattle.model.specs.declared.Node.{Node}

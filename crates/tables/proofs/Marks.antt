@@ -1,19 +1,19 @@
 -- Marking what is reached.
-use Rattle.std.proofs.Common.{◌≡◌, ℕ, zero, suc, ◌+◌, ◌<◌, ◌≤◌, Bool, true, false, ◌⊎◌, ◌↔◌, List, [], ◌∷◌, ◌++◌, map, length, get_or, take, set, Some, None, Option, sym, refl, ap, ◌∙◌, subst, inl, inr, add-one, arith, get_or-set_other, get_or-set_same}
+use Rattle.std.proofs.Common.{◌≡◌, ℕ, zero, suc, ◌+◌, ◌<◌, ◌≤◌, Bool, true, false, ◌⊎◌, List, [], ◌∷◌, ◌++◌, length, get_or, take, set, sym, refl, ap, ◌∙◌, subst, inl, inr, add-one, arith, get_or-set_other, get_or-set_same}
 use Rattle.std.proofs.lemmas.Bool.{cases_lt, cases_eq}
 use Rattle.std.proofs.lemmas.List.{get_or_past, append-nil, take_more, take_all}
 use Rattle.model.specs.declared.Branch.{Branch}
 use Rattle.model.specs.declared.Branch.TheVariants.{End as end, Node as node}
 use Rattle.model.specs.declared.Node.{Node}
 use Rattle.model.specs.Lists.{In, held}
-use Rattle.model.specs.Diagrams.{Table, blank, listed, side, follow, From, Ordered, Reduced, Reached}
+use Rattle.model.specs.Diagrams.{Table, blank, listed, side, follow, From, Reduced, Reached}
 use Rattle.model.proofs.Lists.{in-++, in-++-left, in-++-right}
 use Rattle.model.proofs.Reach.{follow_in}
 use Rattle.tables.specs.declared.line.Line.{Line}
 use Rattle.tables.specs.declared.line.Line.TheVariants.{Empty, Held}
 use Rattle.tables.specs.Lines.{root, roots}
 use Rattle.tables.specs.States.{Live}
-use Rattle.tables.specs.Markings.{Marked, Marking, Diagram, Marks, MarkedFrom, MarksRoots}
+use Rattle.tables.specs.Markings.{Marked, Marking, Diagram, Marks, MarkedFrom}
 
 pub live_inside : (marks : List ℕ) (i : ℕ) → Live marks i → i < length marks
 live_inside marks i h = elim (cases_lt i (length marks)) [ inl l ↦ l | inr g ↦ (let e : get_or marks i 0 ≡ 0 = get_or_past marks i 0 g in absurd (omega arith)) ]

@@ -1,5 +1,5 @@
 -- The live nodes as a diagram, and as parts.
-use Rattle.std.proofs.Common.{◌≡◌, ℕ, List, map, length, sym, refl, subst, arith}
+use Rattle.std.proofs.Common.{◌≡◌, ℕ, List, map, sym, refl, subst, arith}
 use Rattle.model.specs.declared.Branch.{Branch}
 use Rattle.model.specs.declared.Node.{Node}
 use Rattle.model.specs.Lists.{In}

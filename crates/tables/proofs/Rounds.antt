@@ -1,5 +1,5 @@
 -- Probes that go round.
-use Rattle.std.proofs.Common.{◌≡◌, ℕ, suc, ◌+◌, ◌-◌, ◌*◌, ◌/◌, ◌%◌, ◌<◌, ◌≤◌, List, length, get_or, sym, refl, ap, ◌∙◌, subst, add_assoc, mod-lt, mod-eq_of_lt, mul-one, mul-add, arith, below_more}
+use Rattle.std.proofs.Common.{◌≡◌, ℕ, ◌+◌, ◌-◌, ◌*◌, ◌/◌, ◌%◌, ◌<◌, ◌≤◌, List, length, get_or, sym, ap, ◌∙◌, subst, add_assoc, mod-lt, mod-eq_of_lt, mul-one, mul-add, arith, below_more}
 use native.Mathlib.Nat.{mod-add-mod, mod_self, add-mod-mod, mul-add-mod_self_left, mod-add-div}
 use Rattle.model.specs.declared.Node.{Node}
 use Rattle.model.specs.Diagrams.{listed}

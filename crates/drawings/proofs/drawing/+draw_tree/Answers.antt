@@ -1,4 +1,4 @@
-use Rattle.std.proofs.Common.{◌≡◌, Some, None, arith}
+use Rattle.std.proofs.Common.{None, arith}
 use Rattle.drawings.proofs.Drawn.{draw_end, draw_past, draw_low_refused, draw_high_refused, draw_node}
 use Rattle.drawings.proofs.drawing.+draw_tree.Goals as goal
 

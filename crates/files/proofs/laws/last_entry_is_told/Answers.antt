@@ -1,4 +1,4 @@
-use Rattle.std.proofs.Common.{◌≡◌, ℕ, refl, subst}
+use Rattle.std.proofs.Common.{ℕ, refl, subst}
 use Rattle.files.specs.Formats.{first_of}
 use Rattle.files.specs.Theorems.{Last}
 use Rattle.files.proofs.Lasts.{last_told, told_last}

@@ -1,4 +1,4 @@
-use Rattle.std.proofs.Common.{◌≡◌, length, arith}
+use Rattle.std.proofs.Common.{length, arith}
 use Rattle.model.specs.Diagrams.{listed}
 use Rattle.listings.proofs.Leading.{grown_none, one_further, front_done}
 use Rattle.listings.proofs.Shortening.{short_is}

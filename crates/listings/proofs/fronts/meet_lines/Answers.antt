@@ -1,8 +1,5 @@
-use Rattle.std.proofs.Common.{◌≡◌, ℕ, ◌+◌, ◌≤◌, List, length, take, sym, subst, arith, take_all, MatchResult}
-use Rattle.tables.specs.Lines.{roots}
-use Rattle.tables.specs.declared.line.Line.{Line}
-use Rattle.listings.specs.Fronts.{MeetsLines}
-use Rattle.listings.proofs.Leading.{LinesSoFar, grown_none, line_passed, line_met, lines_met}
+use Rattle.std.proofs.Common.{length, arith}
+use Rattle.listings.proofs.Leading.{grown_none, line_passed, line_met, lines_met}
 use Rattle.listings.proofs.fronts.meet_lines.Goals as goal
 use Rattle.listings.proofs.fronts.meet_lines.Goals.{in-Held, in-Empty}
 

@@ -1,4 +1,4 @@
-use Rattle.std.proofs.Common.{◌≡◌, length, sym, arith}
+use Rattle.std.proofs.Common.{arith}
 use Rattle.model.specs.Diagrams.{listed}
 use Rattle.listings.proofs.Picking.{none_picked, one_picked, all_picked}
 use Rattle.listings.proofs.fronts.pick_all.Goals as goal

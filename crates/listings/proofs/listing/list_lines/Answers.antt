@@ -1,4 +1,4 @@
-use Rattle.std.proofs.Common.{◌≡◌, ℕ, ◌+◌, ◌-◌, ◌*◌, length, drop, ap, ◌∙◌, arith}
+use Rattle.std.proofs.Common.{◌≡◌, ◌-◌, length, drop, ap, arith}
 use Rattle.tables.specs.Lines.{roots}
 use Rattle.listings.proofs.Listed.{too_many_pins, buffer_short, buffer_written}
 use Rattle.listings.proofs.listing.list_lines.Goals as goal

@@ -1,4 +1,4 @@
-use Rattle.std.proofs.Common.{◌≡◌, ℕ, ◌+◌, length, take, sym, ◌∙◌, subst, arith}
+use Rattle.std.proofs.Common.{ℕ, ◌+◌, length, take, sym, ◌∙◌, subst, arith}
 use Rattle.listings.specs.Numbers.{NumbersFrom}
 use Rattle.listings.proofs.Numbering.{numbers_none, numbers_place}
 use Rattle.listings.proofs.numbers.+number_from.Goals as goal

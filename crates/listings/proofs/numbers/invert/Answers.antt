@@ -1,4 +1,4 @@
-use Rattle.std.proofs.Common.{length, arith}
+use Rattle.std.proofs.Common.{length}
 use Rattle.listings.proofs.Inverting.{entry_written, entry_outside, inverted_none, inverted_all}
 use Rattle.listings.proofs.numbers.invert.Goals as goal
 use Rattle.listings.proofs.numbers.invert.Goals.{then-i-numbers, else-i-numbers}

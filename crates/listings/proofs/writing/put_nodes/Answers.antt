@@ -1,4 +1,4 @@
-use Rattle.std.proofs.Common.{◌≡◌, ◌+◌, ◌*◌, length, ap, ◌∙◌, arith}
+use Rattle.std.proofs.Common.{◌≡◌, length, ap, ◌∙◌, arith}
 use Rattle.model.specs.Diagrams.{listed}
 use Rattle.listings.specs.Labels.{relabelled}
 use Rattle.listings.proofs.Written.{writes_nothing, nodes_at, node_put, nodes_put, node_length}

@@ -1,4 +1,4 @@
-use Rattle.std.proofs.Common.{◌≡◌, ◌+◌, ◌*◌, length, ap, ◌∙◌, arith}
+use Rattle.std.proofs.Common.{length, ap, arith}
 use Rattle.model.specs.Diagrams.{listed}
 use Rattle.listings.proofs.Written.{nodes_length, listing_written}
 use Rattle.listings.proofs.writing.write_listing.Goals as goal

@@ -1,5 +1,5 @@
 use Rattle.std.proofs.Common.{arith}
-use Rattle.plans.proofs.Reckonings.{filled_few, counted}
+use Rattle.plans.proofs.Reckonings.{filled_few}
 use Rattle.plans.proofs.asking.reached_count.Goals as goal
 
 pub overflow_cast-result : goal.overflow_cast-result

@@ -1,4 +1,4 @@
-use Rattle.std.proofs.Common.{◌≡◌, ℕ, List, subst}
+use Rattle.std.proofs.Common.{ℕ, List, subst}
 use Rattle.model.specs.Orders.{Order}
 use Rattle.tables.specs.Lines.{roots}
 use Rattle.drawings.specs.Draws.{DrawsRoot}

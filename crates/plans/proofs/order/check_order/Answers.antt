@@ -1,4 +1,4 @@
-use Rattle.std.proofs.Common.{◌≡◌, length, Some, sym, ap, ◌∙◌, arith}
+use Rattle.std.proofs.Common.{length, Some, sym, ap, ◌∙◌, arith}
 use Rattle.plans.proofs.Naming.{below_more, below_found}
 use Rattle.plans.proofs.order.check_order.Goals as goal
 

@@ -1,4 +1,4 @@
-use Rattle.std.proofs.Common.{◌≡◌, sym, arith}
+use Rattle.std.proofs.Common.{sym, arith}
 use Rattle.plans.proofs.Naming.{among_more, among_found}
 use Rattle.plans.proofs.order.is_among.Goals as goal
 

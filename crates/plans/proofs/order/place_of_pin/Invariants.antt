@@ -1,4 +1,4 @@
-use Rattle.std.proofs.Common.{◌≡◌, ℕ, ◌+◌, drop}
+use Rattle.std.proofs.Common.{◌≡◌, ◌+◌, drop}
 use Rattle.model.specs.Orders.{place_in}
 use Rattle.plans.proofs.order.place_of_pin.Given as goal
 

@@ -1,4 +1,4 @@
-use Rattle.std.proofs.Common.{◌≡◌, ap, ◌∙◌}
+use Rattle.std.proofs.Common.{ap, ◌∙◌}
 use Rattle.files.specs.Formats.{code_of}
 use Rattle.readers.proofs.Stepping.{changes_mean}
 use Rattle.readers.proofs.lookup.code_at.Goals as goal

@@ -1,4 +1,4 @@
-use Rattle.std.proofs.Common.{◌≡◌, ℕ, ◌+◌, ◌-◌, ◌<◌, ◌≤◌, sym, subst, arith}
+use Rattle.std.proofs.Common.{◌≡◌, ℕ, ◌+◌, ◌<◌, sym, subst, arith}
 use Rattle.readers.specs.Changes.{change_at, change_count}
 use Rattle.files.specs.Formats.{code_of}
 use Rattle.files.proofs.Lasts.{told_last}

@@ -1,4 +1,4 @@
-use Rattle.std.proofs.Common.{◌≡◌, ℕ, ◌+◌, ◌-◌, ◌*◌, ◌%◌, ◌^◌, ◌<◌, ◌≤◌, ap, mul-le-mul_right, add-mul, arith, pow_pos, pow_mono, pow-add}
+use Rattle.std.proofs.Common.{◌≡◌, ℕ, ◌+◌, ◌-◌, ◌*◌, ◌%◌, ◌^◌, ◌<◌, ◌≤◌, ap, arith, pow_pos, pow_mono, pow-add}
 use Rattle.std.proofs.lemmas.Nat.{one_shl, mul-add-lt}
 use Rattle.sources.specs.Blocks.{Inside}
 use Rattle.readers.proofs.lookup.span.Goals as goal

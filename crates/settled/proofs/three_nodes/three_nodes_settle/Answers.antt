@@ -1,4 +1,4 @@
-use Rattle.std.proofs.Common.{◌≡◌, sym, refl, ◌∙◌}
+use Rattle.std.proofs.Common.{refl, ◌∙◌}
 use Rattle.plans.specs.Plain.{erase}
 use Rattle.settled.proofs.ThreeSteps.{new_plan, one_drawn, two_drawn, still_two, erased, drawn_again, switches_1_3, switches_1_2_3, switch_2, first_goes, second_goes, three_used, third_refused, erase_goes, third_goes, two_used, never, erase_at, told_outcome, taken_out}
 use Rattle.settled.specs.Three.{drawing}

@@ -1,4 +1,4 @@
-use Rattle.std.proofs.Common.{◌≡◌, ℕ, ◌-◌, get_or, subst, arith}
+use Rattle.std.proofs.Common.{◌≡◌, ◌-◌, get_or, subst, arith}
 use Rattle.std.proofs.lemmas.Bool.Decides.{not_from_Decides}
 use Rattle.tables.specs.States.{Live}
 use Rattle.tables.proofs.Entries.{not_full}

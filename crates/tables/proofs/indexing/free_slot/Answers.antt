@@ -1,4 +1,4 @@
-use Rattle.std.proofs.Common.{◌≡◌, ℕ, ◌+◌, ◌%◌, ◌<◌, length, get_or, sym, subst, mod-lt, arith, below_more}
+use Rattle.std.proofs.Common.{◌+◌, ◌%◌, ◌<◌, length, get_or, subst, arith, below_more}
 use Rattle.tables.proofs.Rounds.{round_on, all_round, round_less}
 use Rattle.tables.proofs.indexing.free_slot.Goals as goal
 

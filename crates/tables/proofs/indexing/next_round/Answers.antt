@@ -1,4 +1,3 @@
-use Rattle.std.proofs.Common.{arith}
 use Rattle.tables.proofs.Rounds.{round_in, round_over}
 use Rattle.tables.proofs.indexing.next_round.Goals as goal
 

@@ -1,6 +1,6 @@
-use Rattle.std.proofs.Common.{length, set, refl, arith, length-set}
+use Rattle.std.proofs.Common.{refl, arith, length-set}
 use Rattle.model.specs.Diagrams.{listed}
-use Rattle.tables.proofs.Marks.{marking_done, mark_outside, mark_marked, mark_early, mark_late, mark_node}
+use Rattle.tables.proofs.Marks.{mark_outside, mark_node}
 use Rattle.tables.proofs.marking.+mark_from.Goals as goal
 
 pub returns-then-i-marks : goal.returns-then-i-marks

@@ -1,8 +1,8 @@
-use Rattle.std.proofs.Common.{◌≡◌, length, get_or, take, sym, ap, ◌∙◌, subst, arith, rules}
+use Rattle.std.proofs.Common.{◌≡◌, get_or, sym, ap, ◌∙◌, subst, arith, rules}
 use Rattle.std.proofs.lemmas.List.{take_all}
 use Rattle.tables.specs.Indexes.{filled, nonzero}
 use Rattle.tables.specs.Markings.{Counts}
-use Rattle.tables.proofs.Counts.{filled_more, filled_take_le, filled_take_index, nonzero_is, counts_filled}
+use Rattle.tables.proofs.Counts.{filled_more, filled_take_index, nonzero_is, counts_filled}
 use Rattle.tables.proofs.marking.count_marks.Goals as goal
 use Rattle.tables.proofs.marking.count_marks.Goals.{then-mark-ne0, else-mark-ne0}
 

@@ -1,4 +1,4 @@
-use Rattle.std.proofs.Common.{◌≡◌, ℕ, ◌+◌, List, length, take, sym, subst, arith}
+use Rattle.std.proofs.Common.{ℕ, ◌+◌, List, take, sym, subst, arith}
 use Rattle.model.specs.Lists.{held}
 use Rattle.model.specs.Diagrams.{listed}
 use Rattle.tables.specs.Lines.{roots}

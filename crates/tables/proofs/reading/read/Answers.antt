@@ -1,4 +1,4 @@
-use Rattle.std.proofs.Common.{◌≡◌, length, get_or, sym, ap, ◌∙◌, arith}
+use Rattle.std.proofs.Common.{length, get_or, sym, ap, ◌∙◌, arith}
 use Rattle.model.specs.Diagrams.{listed, next}
 use Rattle.tables.proofs.Walks.{in_getD, walk_on, walk_end}
 use Rattle.tables.proofs.reading.read.Goals as goal

@@ -1,4 +1,4 @@
-use Rattle.std.proofs.Common.{◌≡◌, ◌+◌, ◌*◌, ◌/◌, ◌%◌, ◌<◌, true, ltb, Some, refl, ap, ◌∙◌, arith, lt-ltb}
+use Rattle.std.proofs.Common.{◌≡◌, ◌/◌, ◌%◌, true, ltb, Some, refl, ap, arith, lt-ltb}
 use Rattle.ends.specs.Same.{same_setting}
 use Rattle.ends.proofs.end.SettingEnd.decode.Goals as goal
 

@@ -1,4 +1,4 @@
-use Rattle.std.proofs.Common.{◌≡◌, length, refl}
+use Rattle.std.proofs.Common.{length, refl}
 use Rattle.plans.proofs.Listed.{listed_plan}
 use Rattle.plans.proofs.header.Header.list.Goals as goal
 

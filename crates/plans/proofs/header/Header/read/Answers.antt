@@ -1,8 +1,7 @@
-use Rattle.std.proofs.Common.{◌≡◌, length, sym, refl, ap, ◌∙◌, subst}
+use Rattle.std.proofs.Common.{length}
 use Rattle.std.proofs.lemmas.Result.{err_from_is_err_and}
 use Rattle.plans.specs.Plain.{read_refusal}
-use Rattle.plans.specs.Holding.{order_of}
-use Rattle.plans.proofs.Holdings.{not_turned, order_length, order_names}
+use Rattle.plans.proofs.Holdings.{not_turned}
 use Rattle.plans.proofs.Readings.{read_empty, read_held, read_order}
 use Rattle.plans.proofs.header.Header.read.Goals as goal
 

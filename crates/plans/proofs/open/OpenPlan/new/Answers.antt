@@ -1,4 +1,4 @@
-use Rattle.std.proofs.Common.{◌≡◌, length, sym, refl, arith}
+use Rattle.std.proofs.Common.{length, sym, refl, arith}
 use Rattle.plans.proofs.Beginning.{new_holds}
 use Rattle.plans.proofs.Naming.{make_accepted}
 use Rattle.plans.proofs.open.OpenPlan.new.Goals as goal

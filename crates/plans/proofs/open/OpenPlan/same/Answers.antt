@@ -1,4 +1,3 @@
-use Rattle.std.proofs.Common.{◌≡◌}
 use Rattle.std.proofs.lemmas.Result.{err_from_is_err_and}
 use Rattle.plans.proofs.Comparings.{left_empty, right_empty, both_held}
 use Rattle.plans.proofs.open.OpenPlan.same.Goals as goal
