@@ -1,6 +1,6 @@
 -- The order of the mixed blocks, and their places.
 use Rattle.std.proofs.Common.{◌≡◌, ℕ, zero, suc, ◌+◌, ◌^◌, ◌<◌, ◌≤◌, Bool, true, false, eqb, List, [], ◌∷◌, ◌++◌, map, length, get_or, filter, sym, refl, ap, ◌∙◌, subst, inl, inr, arith}
-use Rattle.std.specs.List.{range_with_len, flat_map, AllByRecursion as All}
+use Rattle.std.specs.List.{range_with_len, flat_map, AllByRecursion}
 use Rattle.std.proofs.ByRecursion.{All-get_or, All-append, all_kept_by, All-weaker}
 use Rattle.std.proofs.lemmas.Bool.{eq-eqb, ne_eqb, and_from, and_left, and_right, cases_Bool, cond-true, cond-false}
 use Rattle.std.proofs.lemmas.Bool.Decides.{eqb_tells}
@@ -18,7 +18,7 @@ pub in_append_right : {X : Type 0} (x : X) (xs ys : List X) → In x ys → In x
 in_append_right x [] ys h = h
 in_append_right x (y ∷ xs) ys h = inr (in_append_right x xs ys h)
 
-pub all_in : {X : Type 0} (P : X → Type 0) (x : X) (xs : List X) → All P xs → In x xs → P x
+pub all_in : {X : Type 0} (P : X → Type 0) (x : X) (xs : List X) → AllByRecursion P xs → In x xs → P x
 all_in P x [] a h = absurd h
 all_in P x (y ∷ ys) a (inl e) = subst P (sym e) a.0
 all_in P x (y ∷ ys) a (inr h) = all_in P x ys a.1 h
@@ -43,13 +43,13 @@ in_kept p x (y ∷ ys) (inr h) e =
       | inr t ↦ subst (λ l. In x l) (sym (cond-false (p y) (y ∷ filter p ys) (filter p ys) t)) more
     ]
 
-kept_holds : {X : Type 0} (p : X → Bool) (xs : List X) → All (λ x. p x ≡ true) (filter p xs)
+kept_holds : {X : Type 0} (p : X → Bool) (xs : List X) → AllByRecursion (λ x. p x ≡ true) (filter p xs)
 kept_holds p [] = tt
 kept_holds p (x ∷ xs) =
     let more = kept_holds p xs in
     elim (cases_Bool (p x)) [
-      | inl t ↦ subst (λ l. All (λ y. p y ≡ true) l) (sym (cond-true (p x) (x ∷ filter p xs) (filter p xs) t)) (t, more)
-      | inr t ↦ subst (λ l. All (λ y. p y ≡ true) l) (sym (cond-false (p x) (x ∷ filter p xs) (filter p xs) t)) more
+      | inl t ↦ subst (λ l. AllByRecursion (λ y. p y ≡ true) l) (sym (cond-true (p x) (x ∷ filter p xs) (filter p xs) t)) (t, more)
+      | inr t ↦ subst (λ l. AllByRecursion (λ y. p y ≡ true) l) (sym (cond-false (p x) (x ∷ filter p xs) (filter p xs) t)) more
     ]
 
 -- counted numbers
@@ -59,28 +59,28 @@ in_counting a (suc k) x l h =
     let more : a + 1 ≤ x → In x (range_with_len (a + 1) k) = λ m. in_counting (a + 1) k x m (omega arith) in
     elim (eqb_tells x a) [ inl t ↦ inl t.1 | inr t ↦ inr (more (omega (arith, t.1))) ]
 
-counting_from : (a k : ℕ) → All (λ x. (a ≤ x) × (x < a + k)) (range_with_len a k)
+counting_from : (a k : ℕ) → AllByRecursion (λ x. (a ≤ x) × (x < a + k)) (range_with_len a k)
 counting_from a zero = tt
 counting_from a (suc k) =
     ((omega arith, omega arith), All-weaker (λ x. (a + 1 ≤ x) × (x < a + 1 + k)) (λ x. (a ≤ x) × (x < a + suc k)) (λ x h. (omega (arith, h.0), omega (arith, h.1))) (range_with_len (a + 1) k) (counting_from (a + 1) k))
 
-all_mapped : {X Y : Type 0} (P : X → Type 0) (Q : Y → Type 0) (f : X → Y) → ((x : X) → P x → Q (f x)) → (xs : List X) → All P xs → All Q (map f xs)
+all_mapped : {X Y : Type 0} (P : X → Type 0) (Q : Y → Type 0) (f : X → Y) → ((x : X) → P x → Q (f x)) → (xs : List X) → AllByRecursion P xs → AllByRecursion Q (map f xs)
 all_mapped P Q f h [] a = tt
 all_mapped P Q f h (x ∷ xs) a = (h x a.0, all_mapped P Q f h xs a.1)
 
-all_joined : {X Y : Type 0} (P : X → Type 0) (Q : Y → Type 0) (f : X → List Y) → ((x : X) → P x → All Q (f x)) → (xs : List X) → All P xs → All Q (flat_map f xs)
+all_joined : {X Y : Type 0} (P : X → Type 0) (Q : Y → Type 0) (f : X → List Y) → ((x : X) → P x → AllByRecursion Q (f x)) → (xs : List X) → AllByRecursion P xs → AllByRecursion Q (flat_map f xs)
 all_joined P Q f h [] a = tt
 all_joined P Q f h (x ∷ xs) a = All-append Q (f x) (flat_map f xs) (h x a.0) (all_joined P Q f h xs a.1)
 
 -- which blocks there are
-pub level_in : (j : ℕ) → All (λ b. (b.0 ≡ j) × (b.1 < 2 ^ j)) (level j)
+pub level_in : (j : ℕ) → AllByRecursion (λ b. (b.0 ≡ j) × (b.1 < 2 ^ j)) (level j)
 unfolding level
 level_in j = all_mapped (λ p. (0 ≤ p) × (p < 0 + 2 ^ j)) (λ b. (b.0 ≡ j) × (b.1 < 2 ^ j)) (λ p. (j, p)) (λ p h. (refl, omega (arith, h.1))) (range_with_len 0 (2 ^ j)) (counting_from 0 (2 ^ j))
 
 abbrev pub There : ℕ → Block → Type 0
 There n b = (b.0 < n) × (b.1 < 2 ^ b.0)
 
-blocks_in : (n : ℕ) → All (There n) (blocks n)
+blocks_in : (n : ℕ) → AllByRecursion (There n) (blocks n)
 unfolding blocks
 blocks_in n =
     all_joined (λ j. (0 ≤ j) × (j < 0 + n)) (There n) level
@@ -92,7 +92,7 @@ blocks_all n j p h l =
     in_joined level (j, p) j (range_with_len 0 n) (in_counting 0 n j (omega arith) (omega arith)) (in_map (λ x. (j, x)) p (range_with_len 0 (2 ^ j)) (in_counting 0 (2 ^ j) p (omega arith) (omega arith)))
 
 -- the order
-ordered_append : (xs ys : List Block) → Ordered xs → Ordered ys → All (λ x. All (Before x) ys) xs → Ordered (xs ++ ys)
+ordered_append : (xs ys : List Block) → Ordered xs → Ordered ys → AllByRecursion (λ x. AllByRecursion (Before x) ys) xs → Ordered (xs ++ ys)
 ordered_append [] ys ox oy a = oy
 ordered_append (x ∷ xs) ys ox oy a = (All-append (Before x) xs ys ox.0 a.0, ordered_append xs ys ox.1 oy a.1)
 
@@ -116,9 +116,9 @@ ordered_whole j = ordered_level j 0 (2 ^ j)
 
 ordered_levels : (a k : ℕ) → Ordered (flat_map level (range_with_len a k))
 ordered_levels a zero = tt
-ordered_levels a (suc k) = ordered_append (level a) (flat_map level (range_with_len (a + 1) k)) (ordered_whole a) (ordered_levels (a + 1) k) (All-weaker (λ b. (b.0 ≡ a) × (b.1 < 2 ^ a)) (λ x. All (Before x) (flat_map level (range_with_len (a + 1) k))) later (level a) (level_in a))
+ordered_levels a (suc k) = ordered_append (level a) (flat_map level (range_with_len (a + 1) k)) (ordered_whole a) (ordered_levels (a + 1) k) (All-weaker (λ b. (b.0 ≡ a) × (b.1 < 2 ^ a)) (λ x. AllByRecursion (Before x) (flat_map level (range_with_len (a + 1) k))) later (level a) (level_in a))
   where
-    later : (b : Block) → (b.0 ≡ a) × (b.1 < 2 ^ a) → All (Before b) (flat_map level (range_with_len (a + 1) k))
+    later : (b : Block) → (b.0 ≡ a) × (b.1 < 2 ^ a) → AllByRecursion (Before b) (flat_map level (range_with_len (a + 1) k))
     later b q =
         all_joined (λ j. (a + 1 ≤ j) × (j < a + 1 + k)) (Before b) level
         (λ j h. All-weaker (λ d. (d.0 ≡ j) × (d.1 < 2 ^ j)) (Before b) (λ d r. inl (omega (arith, r.0, q.0, h.0))) (level j) (level_in j)) (range_with_len (a + 1) k) (counting_from (a + 1) k)
@@ -128,11 +128,11 @@ module _ (n : ℕ) (c : ℕ → ℕ) where
   unfolding mixed_blocks blocks
   ordered = ordered_kept (mixed_block n c) (blocks n) (ordered_levels 0 n)
 
-  pub listed_there : All (There n) (mixed_blocks n c)
+  pub listed_there : AllByRecursion (There n) (mixed_blocks n c)
   unfolding mixed_blocks
   listed_there = all_kept_by (mixed_block n c) (There n) (blocks n) (blocks_in n)
 
-  pub listed_mixed : All (λ b. mixed_block n c b ≡ true) (mixed_blocks n c)
+  pub listed_mixed : AllByRecursion (λ b. mixed_block n c b ≡ true) (mixed_blocks n c)
   unfolding mixed_blocks
   listed_mixed = kept_holds (mixed_block n c) (blocks n)
 

@@ -1,6 +1,6 @@
 -- The mixed blocks of a selection of codes.
 use Rattle.std.specs.Prelude.{◌≡◌, ℕ, zero, suc, ◌+◌, ◌-◌, ◌*◌, ◌^◌, ◌<◌, Bool, false, cond, not, ◌||◌, ◌⊎◌, List, [], ◌∷◌, map, Some, None, filter, Option, ◌==◌}
-use Rattle.std.specs.List.{range_with_len, flat_map, AllByRecursion as All}
+use Rattle.std.specs.List.{range_with_len, flat_map, AllByRecursion}
 
 -- the codes of a selection of ends
 abbrev pub codes : {E : Type 0} → (E → ℕ) → (ℕ → E) → ℕ → ℕ
@@ -45,4 +45,4 @@ Before a b = (a.0 < b.0) ⊎ ((a.0 ≡ b.0) × (a.1 < b.1))
 -- each block stands before all that follow
 abbrev pub Ordered : List Block → Type 0
 Ordered [] = Unit {0}
-Ordered (b ∷ bs) = All (Before b) bs × Ordered bs
+Ordered (b ∷ bs) = AllByRecursion (Before b) bs × Ordered bs
