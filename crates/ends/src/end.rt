@@ -1,9 +1,7 @@
-ghost use Rattle.std.specs.Prelude.{◌≡◌, ℕ, ◌+◌, ◌*◌, ◌/◌, ◌%◌, ◌≤◌, Some, Option as Maybe, nat_lt};
-ghost use Rattle.std.proofs.Common.{ap, rules, arith, lt-ltb};
+ghost use Rattle.std.specs.Prelude.{◌≡◌, ℕ, ◌≤◌, Some, Option as Maybe};
+ghost use Rattle.std.proofs.Common.{rules};
 ghost use Rattle.ends.specs.Codes.{bit_code, bit_of, setting_code, setting_of};
-ghost use Rattle.std.proofs.Math.Bool;
-ghost use Rattle.std.proofs.lemmas.Nat.{div-mul-add, mod-mul-add};
-ghost use Rattle.ends.specs.Same.{same_setting};
+ghost use Rattle.ends.specs.Same.{setting_back};
 
 use crate::setting::Setting;
 
@@ -55,15 +53,11 @@ impl End for Setting {
 
     ghost decoded = { setting_of };
 
-    ghost small = { first_of (Prim.search rules, Prim.grind (arith, Self.row.coded.inj)) };
+    ghost small = { Prim.search rules };
 
-    ghost back = { λ e.
-        let below : nat_lt (e.chip * 8 + e.waits) 128 ≡ Bool.true = lt-ltb _ _ (omega arith) in
-        let q : (e.chip * 8 + e.waits) / 8 % 16 ≡ e.chip = omega (arith, div-mul-add e.chip 8 e.waits e.short) in
-        let r : (e.chip * 8 + e.waits) % 8 ≡ e.waits = mod-mul-add e.chip 8 e.waits e.short in
-        simp below (ap Some (same_setting _ _ _ _ _ _ _ _ q r)) };
+    ghost back = { setting_back };
 
-    ghost only = { first_of (Prim.search rules, Prim.grind (arith, Self.row.coded.inj)) };
+    ghost only = { Prim.search rules };
 
     fn encode(self) -> u16 {
         u16::from(self.chip) * 8 + u16::from(self.waits)

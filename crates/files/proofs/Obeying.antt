@@ -7,7 +7,7 @@ use Rattle.files.specs.declared.format.Format.{Format}
 use Rattle.files.specs.declared.format.Format.TheVariants.{Bits, Settings, Ranges}
 use Rattle.files.specs.Formats.{mark_of, double, header_size, entry_size, pins_of, count_of, first_of, last_of, code_of, code_limit}
 use Rattle.files.specs.Verdict.{marked, of_kind, header_fault, first_fault, switch_fault, range_fault, later_fault, entry_fault, entries_fault, fault, blank}
-use Rattle.files.specs.Rules.{KindRead, Laid_out, SwitchesObey, RangesObey, EntriesObey, Obeys}
+use Rattle.files.specs.Rules.{KindRead, LaidOut, SwitchesObey, RangesObey, EntriesObey, Obeys}
 use Rattle.files.proofs.Scans.{or_left, or_right, or_none, none_of, entries_none, none_entries}
 
 -- three bytes are known one by one
@@ -74,7 +74,7 @@ module _ (k : Format) (bs : List ℕ) where
   header_whole : header_fault k bs ≡ None → length bs ≡ header_size k + count_of k bs * entry_size k
   header_whole e = grind (arith, nat_tests)
 
-  laid_out : header_fault k bs ≡ None → Laid_out k bs
+  laid_out : header_fault k bs ≡ None → LaidOut k bs
   laid_out e = record {
     mark = mark_told k bs (omega (arith, three_in k, header_long e)) (header_marked e);
     version = header_version e;
@@ -85,7 +85,7 @@ module _ (k : Format) (bs : List ℕ) where
     whole = header_whole e;
   }
 
-  unrefused : Laid_out k bs → header_fault k bs ≡ None
+  unrefused : LaidOut k bs → header_fault k bs ≡ None
   unrefused h =
       let m = told_mark k bs h.mark in
       let q = told_kind k bs h.kind in

@@ -9,7 +9,7 @@ KindRead Bits bs = slice_index bs 5 ≡ 0
 KindRead Settings bs = slice_index bs 5 ≡ 1
 KindRead Ranges bs = Unit {0}
 
-pub record Laid_out (k : Format) (bs : List ℕ) : Type 0 where
+pub record LaidOut (k : Format) (bs : List ℕ) : Type 0 where
   pub mark : take 3 bs ≡ mark_of k
   pub version : double bs 3 ≡ 1
   pub kind : KindRead k bs
@@ -38,5 +38,5 @@ EntriesObey Settings bs = SwitchesObey Settings bs
 EntriesObey Ranges bs = RangesObey bs
 
 pub record Obeys (k : Format) (bs : List ℕ) : Type 0 where
-  pub layout : Laid_out k bs
+  pub layout : LaidOut k bs
   pub entries : EntriesObey k bs

@@ -5,7 +5,7 @@ use Rattle.std.proofs.lemmas.Bool.{eq-eqb}
 use Rattle.model.specs.Lists.{In, Apart, spot}
 use Rattle.model.proofs.Lists.{in-++, in_cast}
 use Rattle.model.proofs.Onces.{tells_eqb, tells_ne}
-use Rattle.tables.proofs.Walks.{in_getD}
+use Rattle.tables.proofs.Walks.{in_get_or}
 use Rattle.listings.specs.Numbers.{Inverts}
 
 spot_at : (xs : List ℕ) (k : ℕ) → Apart xs → k < length xs → spot eqb xs (get_or xs k 0) ≡ k
@@ -13,7 +13,7 @@ spot_at [] k a l = absurd (omega arith)
 spot_at (x ∷ xs) zero a l = ap (λ q. cond q 0 (suc (spot eqb xs x))) (eq-eqb x x refl)
 spot_at (x ∷ xs) (suc k) a l =
     let less : k < length xs = omega arith in
-    let m = in_getD xs k less in
+    let m = in_get_or xs k less in
     ap (λ q. cond q 0 (suc (spot eqb xs (get_or xs k 0)))) (tells_ne eqb tells_eqb (get_or xs k 0) x (λ e. a.0 (in_cast (get_or xs k 0) x xs e m)))
     ∙ ap suc (spot_at xs k a.1 less)
 
@@ -35,7 +35,7 @@ InvertedSoFar order long k numbers =
 before : (xs : List ℕ) (k : ℕ) → Apart xs → k < length xs → In (get_or xs k 0) (take k xs) → ⊥
 before [] k a l m = absurd (omega arith)
 before (x ∷ xs) zero a l m = m
-before (x ∷ xs) (suc k) a l (inl e) = a.0 (in_cast (get_or xs k 0) x xs e (in_getD xs k (omega arith)))
+before (x ∷ xs) (suc k) a l (inl e) = a.0 (in_cast (get_or xs k 0) x xs e (in_get_or xs k (omega arith)))
 before (x ∷ xs) (suc k) a l (inr m) = before xs k a.1 (omega arith) m
 
 module _ (order : List ℕ) (long k : ℕ) (less : k < length order) (numbers : List ℕ) (same : length numbers ≡ long) (far : InvertedSoFar order long k numbers) where
@@ -47,13 +47,13 @@ module _ (order : List ℕ) (long k : ℕ) (less : k < length order) (numbers : 
         | inr b ↦ elim b [
           | inl e ↦
               subst (λ (x : ℕ). get_or (set numbers at k) x 0 ≡ spot eqb order x) (sym e)
-              (get_or-set_same numbers at k 0 (let l = small at (in_getD order k less) in omega arith) ∙ sym (spot_at order k apart less))
+              (get_or-set_same numbers at k 0 (let l = small at (in_get_or order k less) in omega arith) ∙ sym (spot_at order k apart less))
           | inr z ↦ absurd z
         ]
       ]
 
   pub entry_outside : length numbers ≤ get_or order k 0 → InvertedSoFar order long (k + 1) numbers
-  entry_outside l apart small = let s = small (get_or order k 0) (in_getD order k less) in absurd (omega arith)
+  entry_outside l apart small = let s = small (get_or order k 0) (in_get_or order k less) in absurd (omega arith)
 
 pub inverted_none : (order : List ℕ) (long : ℕ) (numbers : List ℕ) → InvertedSoFar order long 0 numbers
 inverted_none order long numbers apart small i m = absurd m

@@ -10,7 +10,7 @@ use Rattle.tables.specs.declared.line.Line.{Line}
 use Rattle.tables.specs.declared.line.Line.TheVariants.{Empty, Held}
 use Rattle.tables.specs.Lines.{roots}
 use Rattle.tables.proofs.Marks.{root_held}
-use Rattle.tables.proofs.Walks.{in_getD}
+use Rattle.tables.proofs.Walks.{in_get_or}
 use Rattle.listings.specs.Fronts.{nodes_of, leads, Small, Grown, Meets, MeetsBoth, MeetsLines, LeadsInside, AllShort, Advances}
 
 without_once : (x : ℕ) (zs ys : List ℕ) → without eqb x (once eqb (without eqb x zs ++ ys)) ≡ without eqb x (once eqb (zs ++ ys))
@@ -84,7 +84,7 @@ flat_push g (y ∷ ys) x = ap (λ z. g y ++ z) (flat_push g ys x) ∙ sym (appen
 
 pub in_taken : (xs : List ℕ) (len k : ℕ) → k < len → len ≤ length xs → In (get_or xs k 0) (take len xs)
 in_taken xs len k h l =
-    subst (λ (x : ℕ). In x (take len xs)) (get_or-take len xs k 0 h) (in_getD (take len xs) k (let e = length-take-le len xs l in omega arith))
+    subst (λ (x : ℕ). In x (take len xs)) (get_or-take len xs k 0 h) (in_get_or (take len xs) k (let e = length-take-le len xs l in omega arith))
 
 -- the next front, as far as the front was gone through
 abbrev pub SoFar : Table → ℕ → List ℕ → ℕ → ℕ → List ℕ → ℕ → List ℕ → Type 0
