@@ -1,7 +1,6 @@
 ghost use Rattle.std.specs.Prelude.{◌≡◌, ◌<◌, ◌≤◌};
 ghost use Rattle.drawings.specs.Fixed.{bit_of};
 ghost use Rattle.drawings.specs.Draws.{Draws, DrawsRoot};
-ghost use Rattle.tables.specs.Lines.{roots};
 
 use model::{Branch, Node};
 use tables::adding::{node_for, prepare};
@@ -89,7 +88,7 @@ pub fn draw_root(
     pins: u8,
     lines: &[Line],
 ) -> Option<Branch>
-    ensures { DrawsRoot tree records.now order.now nodes.old work.old pins (roots lines.now) nodes.new result }
+    ensures { DrawsRoot tree records.now order.now nodes.old work.old pins lines.now nodes.new result }
 {
     let (marks, index) = prepare(nodes, work, pins, lines);
     draw_tree(tree, records, order, nodes, marks, index, 0, 0, 0)

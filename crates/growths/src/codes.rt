@@ -29,7 +29,7 @@ pub fn codes_pass<E: End>(nodes: &[Node], marks: &mut [u32], pins: u8, root: Bra
     if !end_decodes::<E>(root) {
         return false;
     }
-    let line = [Line::Held(root)];
+    let line = [Some(root)];
     mark_roots(nodes, marks, pins, &line);
     for i in 0..nodes.len() {
         if marks[i] != 0 {

@@ -2,7 +2,6 @@ ghost use Rattle.std.specs.Prelude.{◌≡◌};
 ghost use Rattle.model.specs.Diagrams.{listed, tree};
 ghost use Rattle.model.specs.Joins.{join, strap};
 ghost use Rattle.model.specs.Lists.{In, held};
-ghost use Rattle.tables.specs.Lines.{roots};
 ghost use Rattle.growths.specs.Codes.{code_join};
 ghost use Rattle.growths.specs.Growths.{Grows};
 
@@ -24,7 +23,7 @@ pub fn join_roots<J: Joining>(
     left: Branch,
     right: Branch,
 ) -> Option<Branch>
-    ensures { In left (held (roots lines.now)) → In right (held (roots lines.now)) → Grows pins nodes.old work.old (roots lines.now) (join (code_join J.Of.End.decoded J.Of.End.code J.Joining.joined) (tree (listed nodes.old) pins 0 left) (tree (listed nodes.old) pins 0 right)) nodes.new result }
+    ensures { In left (held lines.now) → In right (held lines.now) → Grows pins nodes.old work.old lines.now (join (code_join J.Of.End.decoded J.Of.End.code J.Joining.joined) (tree (listed nodes.old) pins 0 left) (tree (listed nodes.old) pins 0 right)) nodes.new result }
 {
     let (marks, index) = prepare(nodes, work, pins, lines);
     apply(joining, nodes, marks, index, pins, 0, left, right)
@@ -40,7 +39,7 @@ pub fn strap_root(
     high: bool,
     root: Branch,
 ) -> Option<Branch>
-    ensures { In root (held (roots lines.now)) → Grows pins nodes.old work.old (roots lines.now) (strap at high (tree (listed nodes.old) pins 0 root)) nodes.new result }
+    ensures { In root (held lines.now) → Grows pins nodes.old work.old lines.now (strap at high (tree (listed nodes.old) pins 0 root)) nodes.new result }
 {
     let (marks, index) = prepare(nodes, work, pins, lines);
     restrict(nodes, marks, index, pins, 0, at, high, root)

@@ -1,14 +1,11 @@
 -- Fronts that grow by several nodes.
-use Rattle.std.proofs.Common.{◌≡◌, ℕ, zero, suc, ◌+◌, ◌<◌, ◌≤◌, Bool, true, false, cond, not, eqb, List, [], ◌∷◌, ◌++◌, length, get_or, take, replicate, sym, refl, ap, ◌∙◌, subst, ap₂, arith, take_all}
+use Rattle.std.proofs.Common.{None, Some, Option, ◌≡◌, ℕ, zero, suc, ◌+◌, ◌<◌, ◌≤◌, Bool, true, false, cond, not, eqb, List, [], ◌∷◌, ◌++◌, length, get_or, take, replicate, sym, refl, ap, ◌∙◌, subst, ap₂, arith, take_all}
 use Rattle.std.proofs.lemmas.List.{append-nil, append_assoc, take_more, get_or-take, length-take-le}
 use Rattle.model.specs.declared.Branch.{Branch}
 use Rattle.model.specs.declared.Branch.TheVariants.{End as end, Node as node}
 use Rattle.model.specs.Lists.{In, without, once, flat, held}
 use Rattle.model.specs.Diagrams.{Table, next}
 use Rattle.model.proofs.Onces.{tells_eqb, keep_swap, keep_twice}
-use Rattle.tables.specs.declared.line.Line.{Line}
-use Rattle.tables.specs.declared.line.Line.TheVariants.{Empty, Held}
-use Rattle.tables.specs.Lines.{roots}
 use Rattle.tables.proofs.Marks.{root_held}
 use Rattle.tables.proofs.Walks.{in_get_or}
 use Rattle.listings.specs.Fronts.{nodes_of, leads, Small, Grown, Meets, MeetsBoth, MeetsLines, LeadsInside, AllShort, Advances}
@@ -105,36 +102,36 @@ one_further T d front len k i row count seen row' count' seen' less inside is sa
     (grown_more size [] (flat (leads T d) (take k front)) (leads T d i) row count seen row' count' seen' g h)
 
 -- the front of lines, as far as they were gone through
-abbrev pub LinesSoFar : List Line → ℕ → List ℕ → ℕ → List ℕ → Type 0
+abbrev pub LinesSoFar : List (Option Branch) → ℕ → List ℕ → ℕ → List ℕ → Type 0
 LinesSoFar lines k row count seen =
-    (size : ℕ) → length row ≡ size → length seen ≡ size → ((b : Branch) → In b (held (roots lines)) → Small size b) → Grown size [] (nodes_of (held (roots (take k lines)))) row count seen
+    (size : ℕ) → length row ≡ size → length seen ≡ size → ((b : Branch) → In b (held lines) → Small size b) → Grown size [] (nodes_of (held (take k lines))) row count seen
 
-roots_push : (xs : List Line) (x : Line) → nodes_of (held (roots (xs ++ (x ∷ [])))) ≡ nodes_of (held (roots xs)) ++ nodes_of (held (roots (x ∷ [])))
+roots_push : (xs : List (Option Branch)) (x : Option Branch) → nodes_of (held ((xs ++ (x ∷ [])))) ≡ nodes_of (held xs) ++ nodes_of (held ((x ∷ [])))
 roots_push [] x = refl
-roots_push (Empty ∷ xs) x = roots_push xs x
-roots_push (Held (end c) ∷ xs) x = roots_push xs x
-roots_push (Held (node i) ∷ xs) x = ap (λ z. i ∷ z) (roots_push xs x)
+roots_push (None ∷ xs) x = roots_push xs x
+roots_push (Some (end c) ∷ xs) x = roots_push xs x
+roots_push (Some (node i) ∷ xs) x = ap (λ z. i ∷ z) (roots_push xs x)
 
-module _ (lines : List Line) (k : ℕ) (less : k < length lines) (row : List ℕ) (count : ℕ) (seen : List ℕ) where
-  pub line_passed : get_or lines k Empty ≡ Empty → LinesSoFar lines k row count seen → LinesSoFar lines (k + 1) row count seen
+module _ (lines : List (Option Branch)) (k : ℕ) (less : k < length lines) (row : List ℕ) (count : ℕ) (seen : List ℕ) where
+  pub line_passed : get_or lines k None ≡ None → LinesSoFar lines k row count seen → LinesSoFar lines (k + 1) row count seen
   line_passed e far size room wide small =
       subst (λ (xs : List ℕ). Grown size [] xs row count seen)
-      (sym (ap (λ l. nodes_of (held (roots l))) (take_more lines k Empty less) ∙ (roots_push (take k lines) (get_or lines k Empty) ∙ (ap (λ l. nodes_of (held (roots (take k lines))) ++ nodes_of (held (roots (l ∷ [])))) e ∙ append-nil (nodes_of (held (roots (take k lines))))))))
+      (sym (ap (λ l. nodes_of (held l)) (take_more lines k None less) ∙ (roots_push (take k lines) (get_or lines k None) ∙ (ap (λ l. nodes_of (held (take k lines)) ++ nodes_of (held ((l ∷ [])))) e ∙ append-nil (nodes_of (held (take k lines)))))))
       (far size room wide small)
 
-  pub line_met : (b : Branch) → get_or lines k Empty ≡ Held b → (row' : List ℕ) (count' : ℕ) (seen' : List ℕ) → length row' ≡ length row → length seen' ≡ length seen
+  pub line_met : (b : Branch) → get_or lines k None ≡ Some b → (row' : List ℕ) (count' : ℕ) (seen' : List ℕ) → length row' ≡ length row → length seen' ≡ length seen
       → Meets row count seen b row' count' seen' → LinesSoFar lines k row count seen → LinesSoFar lines (k + 1) row' count' seen'
   line_met b e row' count' seen' same_row same_seen meets far size room wide small =
       let g = far size (sym same_row ∙ room) (sym same_seen ∙ wide) small in
       let h = meets size g.front (small b (root_held lines k b less e)) in
       subst (λ (xs : List ℕ). Grown size [] xs row' count' seen')
-      (sym (ap (λ l. nodes_of (held (roots l))) (take_more lines k Empty less) ∙ (roots_push (take k lines) (get_or lines k Empty) ∙ ap (λ l. nodes_of (held (roots (take k lines))) ++ nodes_of (held (roots (l ∷ [])))) e)))
-      (grown_more size [] (nodes_of (held (roots (take k lines)))) (nodes_of (b ∷ [])) row count seen row' count' seen' g h)
+      (sym (ap (λ l. nodes_of (held l)) (take_more lines k None less) ∙ (roots_push (take k lines) (get_or lines k None) ∙ ap (λ l. nodes_of (held (take k lines)) ++ nodes_of (held ((l ∷ [])))) e)))
+      (grown_more size [] (nodes_of (held (take k lines))) (nodes_of (b ∷ [])) row count seen row' count' seen' g h)
 
 -- all lines were gone through
-pub lines_met : (lines : List Line) (k : ℕ) → length lines ≤ k → (row : List ℕ) (count : ℕ) (seen : List ℕ) → LinesSoFar lines k row count seen → MeetsLines (roots lines) row count seen
+pub lines_met : (lines : List (Option Branch)) (k : ℕ) → length lines ≤ k → (row : List ℕ) (count : ℕ) (seen : List ℕ) → LinesSoFar lines k row count seen → MeetsLines lines row count seen
 lines_met lines k all row count seen far size room wide small =
-    subst (λ (ls : List Line). Grown size [] (nodes_of (held (roots ls))) row count seen) (take_all k lines all) (far size room wide small)
+    subst (λ (ls : List (Option Branch)). Grown size [] (nodes_of (held ls)) row count seen) (take_all k lines all) (far size room wide small)
 
 -- so was the front
 pub front_done : (T : Table) (d : ℕ) (front : List ℕ) (len k : ℕ) → k ≡ len → (row : List ℕ) (count : ℕ) (seen : List ℕ) → SoFar T d front len k row count seen → Advances T d (take len front) row count seen

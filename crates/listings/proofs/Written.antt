@@ -7,9 +7,6 @@ use Rattle.model.specs.declared.Node.{Node}
 use Rattle.model.specs.Lists.{flat, each}
 use Rattle.model.specs.Diagrams.{Table}
 use Rattle.model.specs.Listings.{two_bytes, reference, line_reference, node_bytes, bytes}
-use Rattle.tables.specs.declared.line.Line.{Line}
-use Rattle.tables.specs.declared.line.Line.TheVariants.{Empty}
-use Rattle.tables.specs.Lines.{root, roots}
 use Rattle.listings.specs.Labels.{short, relabel, relabelled, labelled, Writes}
 
 -- byte by byte
@@ -103,34 +100,33 @@ module _ (T : Table) (order numbers : List ℕ) (k : ℕ) (room : List ℕ) (at 
   nodes_put all = subst (λ (xs : List ℕ). Writes room at (flat node_bytes (labelled T xs numbers []).nodes) room' at') (take_all k order all) far
 
 -- lines so far
-abbrev pub LinesSoFar : List ℕ → List Line → ℕ → List ℕ → ℕ → List ℕ → ℕ → Type 0
-LinesSoFar numbers lines k room at room' at' = Writes room at (flat line_reference (map (each (relabel numbers)) (roots (take k lines)))) room' at'
+abbrev pub LinesSoFar : List ℕ → List (Option Branch) → ℕ → List ℕ → ℕ → List ℕ → ℕ → Type 0
+LinesSoFar numbers lines k room at room' at' = Writes room at (flat line_reference (map (each (relabel numbers)) (take k lines))) room' at'
 
-module _ (numbers : List ℕ) (lines : List Line) (k : ℕ) (room : List ℕ) (at : ℕ) (room' : List ℕ) (at' : ℕ) (far : LinesSoFar numbers lines k room at room' at') where
+module _ (numbers : List ℕ) (lines : List (Option Branch)) (k : ℕ) (room : List ℕ) (at : ℕ) (room' : List ℕ) (at' : ℕ) (far : LinesSoFar numbers lines k room at room' at') where
   pub lines_at : k ≤ length lines → at' ≡ at + 3 * k
   lines_at le =
       let w = far.next_is in
-      let f = flat_length line_reference 3 line_length (map (each (relabel numbers)) (roots (take k lines))) in
-      let m = length-map (roots (take k lines)) (each (relabel numbers)) in
-      let r = length-map (take k lines) root in
+      let f = flat_length line_reference 3 line_length (map (each (relabel numbers)) (take k lines)) in
+      let m = length-map (take k lines) (each (relabel numbers)) in
       let t = length-take-le k lines le in
       omega arith
 
-  pub line_put : k < length lines → (x : Line) → root x ≡ each (relabel numbers) (root (get_or lines k Empty)) → (bs : List ℕ) → bs ≡ line_reference (root x) → (room'' : List ℕ) (at'' : ℕ) → Writes room' at' bs room'' at''
+  pub line_put : k < length lines → (x : Option Branch) → x ≡ each (relabel numbers) (get_or lines k None) → (bs : List ℕ) → bs ≡ line_reference x → (room'' : List ℕ) (at'' : ℕ) → Writes room' at' bs room'' at''
       → LinesSoFar numbers lines (k + 1) room at room'' at''
   line_put less x e bs q room'' at'' w =
       subst (λ (cs : List ℕ). Writes room at cs room'' at'')
-      (ap (λ y. flat line_reference (map g (roots (take k lines))) ++ y) (q ∙ ap line_reference e)
-      ∙ (sym (flat_push line_reference (map g (roots (take k lines))) (g (root (get_or lines k Empty))))
+      (ap (λ y. flat line_reference (map g (take k lines)) ++ y) (q ∙ ap line_reference e)
+      ∙ (sym (flat_push line_reference (map g (take k lines)) (g (get_or lines k None)))
       ∙ ap (flat line_reference)
-      (sym (map_push g (roots (take k lines)) (root (get_or lines k Empty))) ∙ ap (map g) (sym (map_push root (take k lines) (get_or lines k Empty)) ∙ ap roots (sym (take_more lines k Empty less))))))
-      (writes_then room at (flat line_reference (map g (roots (take k lines)))) room' at' bs room'' at'' far w)
+      (sym (map_push g (take k lines) (get_or lines k None)) ∙ ap (map g) (sym (take_more lines k None less)))))
+      (writes_then room at (flat line_reference (map g (take k lines))) room' at' bs room'' at'' far w)
     where
       g : Option Branch → Option Branch
       g = each (relabel numbers)
 
-  pub lines_put : length lines ≤ k → Writes room at (flat line_reference (map (each (relabel numbers)) (roots lines))) room' at'
-  lines_put all = subst (λ (xs : List Line). Writes room at (flat line_reference (map (each (relabel numbers)) (roots xs))) room' at') (take_all k lines all) far
+  pub lines_put : length lines ≤ k → Writes room at (flat line_reference (map (each (relabel numbers)) lines)) room' at'
+  lines_put all = subst (λ (xs : List (Option Branch)). Writes room at (flat line_reference (map (each (relabel numbers)) xs)) room' at') (take_all k lines all) far
 
 -- how long the nodes and the lines are
 pub nodes_length : (T : Table) (order numbers : List ℕ) → length (flat node_bytes (labelled T order numbers []).nodes) ≡ 7 * length order
@@ -139,24 +135,23 @@ nodes_length T order numbers =
     let m = length-map order (λ i. relabelled numbers (T (short i))) in
     omega arith
 
-pub lines_length : (numbers : List ℕ) (lines : List Line) → length (flat line_reference (map (each (relabel numbers)) (roots lines))) ≡ 3 * length lines
+pub lines_length : (numbers : List ℕ) (lines : List (Option Branch)) → length (flat line_reference (map (each (relabel numbers)) lines)) ≡ 3 * length lines
 lines_length numbers lines =
-    let f = flat_length line_reference 3 line_length (map (each (relabel numbers)) (roots lines)) in
-    let m = length-map (roots lines) (each (relabel numbers)) in
-    let r = length-map lines root in
+    let f = flat_length line_reference 3 line_length (map (each (relabel numbers)) lines) in
+    let m = length-map lines (each (relabel numbers)) in
     omega arith
 
 -- the whole listing
-module _ (pins : List ℕ) (T : Table) (order numbers : List ℕ) (lines : List Line) where
+module _ (pins : List ℕ) (T : Table) (order numbers : List ℕ) (lines : List (Option Branch)) where
   pub listing_written : (room room₁ room₂ room₃ room₄ room₅ room₆ : List ℕ) (at₁ at₂ at₃ at₄ at₅ at₆ : ℕ)
       → Writes room 0 (0x4C ∷ (0x53 ∷ (0x54 ∷ (0 ∷ (1 ∷ []))))) room₁ at₁ → Writes room₁ at₁ (length pins ∷ []) room₂ at₂ → Writes room₂ at₂ pins room₃ at₃
       → (count : List ℕ) → count ≡ two_bytes (length order) → Writes room₃ at₃ count room₄ at₄
-      → Writes room₄ at₄ (flat node_bytes (labelled T order numbers []).nodes) room₅ at₅ → Writes room₅ at₅ (flat line_reference (map (each (relabel numbers)) (roots lines))) room₆ at₆
-      → length room₆ ≡ 8 + length pins + 7 * length order + 3 * length lines → room₆ ≡ bytes pins (labelled T order numbers (roots lines))
+      → Writes room₄ at₄ (flat node_bytes (labelled T order numbers []).nodes) room₅ at₅ → Writes room₅ at₅ (flat line_reference (map (each (relabel numbers)) lines)) room₆ at₆
+      → length room₆ ≡ 8 + length pins + 7 * length order + 3 * length lines → room₆ ≡ bytes pins (labelled T order numbers lines)
   unfolding bytes
   listing_written room room₁ room₂ room₃ room₄ room₅ room₆ at₁ at₂ at₃ at₄ at₅ at₆ w₁ w₂ w₃ count e w₄ w₅ w₆ long =
       let ns = flat node_bytes (labelled T order numbers []).nodes in
-      let ls = flat line_reference (map (each (relabel numbers)) (roots lines)) in
+      let ls = flat line_reference (map (each (relabel numbers)) lines) in
       let v₅ = writes_then room₄ at₄ ns room₅ at₅ ls room₆ at₆ w₅ w₆ in
       let v₄ = writes_then room₃ at₃ count room₄ at₄ (ns ++ ls) room₆ at₆ w₄ v₅ in
       let v₃ = writes_then room₂ at₂ pins room₃ at₃ (count ++ (ns ++ ls)) room₆ at₆ w₃ v₄ in

@@ -3,7 +3,6 @@ ghost use Rattle.listings.specs.Labels.{short};
 ghost use Rattle.listings.specs.Fronts.{asks, Meets, MeetsBoth, MeetsLines, Advances, Picks, PicksAll};
 ghost use Rattle.model.specs.Diagrams.{listed, next};
 ghost use Rattle.model.specs.declared.Branch.TheVariants.{Node as node};
-ghost use Rattle.tables.specs.Lines.{roots};
 
 use model::{Branch, Node};
 use tables::line::Line;
@@ -73,14 +72,14 @@ fn meet_both(
 // The front of the lines' roots, in the order of the lines.
 pub(crate) fn meet_lines(row: &mut [u32], seen: &mut [u32], lines: &[Line]) -> usize
     ensures inside { result ≤ length row.old }
-    ensures meets { MeetsLines (roots lines.now) row.new result seen.new }
+    ensures meets { MeetsLines lines.now row.new result seen.new }
 {
     seen.fill(0);
     let mut count = 0;
     for line in lines {
         match *line {
-            Line::Empty => {}
-            Line::Held(root) => count = meet(row, count, seen, root),
+            None => {}
+            Some(root) => count = meet(row, count, seen, root),
         }
     }
     count

@@ -3,7 +3,6 @@ ghost use Rattle.std.specs.Prelude.{◌≡◌, ◌≤◌, length};
 ghost use Rattle.model.specs.Lists.{each};
 ghost use Rattle.model.specs.Listings.{two_bytes, reference, line_reference, node_bytes};
 ghost use Rattle.listings.specs.Labels.{relabel, relabelled};
-ghost use Rattle.tables.specs.Lines.{root};
 
 use crate::fronts::number_in;
 use model::{Branch, Node};
@@ -35,11 +34,11 @@ pub(crate) fn relabel_node(numbers: &[u32], node: Node) -> Node
 }
 
 pub(crate) fn relabel_line(numbers: &[u32], line: Line) -> Line
-    ensures { root result ≡ each (relabel numbers.now) (root line) }
+    ensures { result ≡ each (relabel numbers.now) line }
 {
     match line {
-        Line::Empty => Line::Empty,
-        Line::Held(branch) => Line::Held(relabel_branch(numbers, branch)),
+        None => None,
+        Some(branch) => Some(relabel_branch(numbers, branch)),
     }
 }
 
@@ -63,11 +62,11 @@ fn branch_bytes(branch: Branch) -> [u8; 3]
 }
 
 pub(crate) fn line_bytes(line: Line) -> [u8; 3]
-    ensures { result ≡ line_reference (root line) }
+    ensures { result ≡ line_reference line }
 {
     match line {
-        Line::Empty => [0xFF, 0, 0],
-        Line::Held(branch) => branch_bytes(branch),
+        None => [0xFF, 0, 0],
+        Some(branch) => branch_bytes(branch),
     }
 }
 

@@ -1,6 +1,5 @@
 ghost use Rattle.std.specs.Prelude.{◌≡◌, ◌+◌, ◌*◌, ◌≤◌, length};
 ghost use Rattle.listings.specs.Lists.{ListsLines};
-ghost use Rattle.tables.specs.Lines.{roots};
 
 use crate::numbers::number_nodes;
 use crate::writing::write_listing;
@@ -24,7 +23,7 @@ pub fn list_lines(
     lines: &[Line; 32],
     buffer: &mut [u8],
 ) -> Result<usize, Fault>
-    ensures { ListsLines nodes.now (length work.old) pins.now (roots lines.now) buffer.old result buffer.new }
+    ensures { ListsLines nodes.now (length work.old) pins.now lines.now buffer.old result buffer.new }
 {
     let pin_count = pins.len();
     if pin_count > 20 {

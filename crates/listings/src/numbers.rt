@@ -1,6 +1,5 @@
 ghost use Rattle.std.specs.Prelude.{◌≡◌, ◌<◌, ◌≤◌, length, take};
 ghost use Rattle.listings.specs.Numbers.{NumbersFrom, Inverts, Numbers};
-ghost use Rattle.tables.specs.Lines.{roots};
 
 use crate::fronts::{advance, meet_lines, pick_all};
 use model::Node;
@@ -52,7 +51,7 @@ pub(crate) fn number_nodes<'a>(
     lines: &[Line],
 ) -> (&'a mut [u32], &'a mut [u32])
     ensures few { length result.0.now ≤ 4096 }
-    ensures numbers { Numbers pins nodes.now work.old (roots lines.now) result.0.now result.1.now }
+    ensures numbers { Numbers pins nodes.now work.old lines.now result.0.now result.1.now }
 {
     let len = nodes.len();
     let room = work.len();

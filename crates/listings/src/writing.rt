@@ -3,7 +3,6 @@ ghost use Rattle.model.specs.Diagrams.{listed};
 ghost use Rattle.model.specs.Listings.{bytes, node_bytes, line_reference};
 ghost use Rattle.model.specs.Lists.{each, flat};
 ghost use Rattle.listings.specs.Labels.{short, relabel, relabelled, labelled, Writes};
-ghost use Rattle.tables.specs.Lines.{roots};
 
 use crate::fronts::number_in;
 use crate::labels::{line_bytes, node_bytes, relabel_line, relabel_node, used_bytes};
@@ -38,7 +37,7 @@ fn put_nodes(room: &mut [u8], at: usize, nodes: &[Node], order: &[u32], numbers:
 // Writes the references of lines, under the numbers of nodes.
 fn put_lines(room: &mut [u8], at: usize, numbers: &[u32], lines: &[Line]) -> usize
     requires { at + 3 * length lines.now ≤ length room.old }
-    ensures { Writes room.old at (flat line_reference (map (each (relabel numbers.now)) (roots lines.now))) room.new result }
+    ensures { Writes room.old at (flat line_reference (map (each (relabel numbers.now)) lines.now)) room.new result }
 {
     let mut at = at;
     for line in lines {
@@ -59,7 +58,7 @@ pub(crate) fn write_listing(
     requires few { length pins.now ≤ 20 }
     requires short { length order.now ≤ 4096 }
     requires fits { length room.old ≡ 8 + length pins.now + 7 * length order.now + 3 * length lines.now }
-    ensures { room.new ≡ bytes pins.now (labelled (listed nodes.now) order.now numbers.now (roots lines.now)) }
+    ensures { room.new ≡ bytes pins.now (labelled (listed nodes.now) order.now numbers.now lines.now) }
 {
     let at = put(room, 0, &[0x4C, 0x53, 0x54, 0, 1]);
     let at = put(room, at, &[pins.len() as u8]);

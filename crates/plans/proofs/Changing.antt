@@ -9,8 +9,6 @@ use Rattle.model.specs.Lists.{held}
 use Rattle.model.specs.Trees.{Tree}
 use Rattle.model.specs.Selections.{Selection, view_of}
 use Rattle.model.specs.Diagrams.{listed, Reached}
-use Rattle.tables.specs.declared.line.Line.TheVariants.{Empty}
-use Rattle.tables.specs.Lines.{roots}
 use Rattle.growths.specs.Growths.{Grew, Grows}
 use Rattle.plans.specs.declared.header.Header.{Header}
 use Rattle.plans.specs.Plain.{Plain, Call, pins, with_line, input_refusal, state_told, told, changed, work_size, too_many_parts}
@@ -43,7 +41,7 @@ past_input h p c heads e = ap (λ t. or_else t (state_told p c)) (at_header h p 
 -- a refusal by what the lines hold, before any node is written
 pub state_did : (h : Header) (nodes nodes' : List Node) (c : Call) (f : Fault) → None ≡ input_refusal h.pins h.size c
     → ((p : Plain) → Holds h nodes p → state_told p c ≡ Some f) → ((p : Plain) → Holds h nodes p → Holds h nodes' p)
-    → ((p : Plain) → Holds h nodes p → (i : ℕ) → Reached (listed nodes) (held (roots h.lines)) i → listed nodes' i ≡ listed nodes i)
+    → ((p : Plain) → Holds h nodes p → (i : ℕ) → Reached (listed nodes) (held h.lines) i → listed nodes' i ≡ listed nodes i)
     → Did h nodes c (Err f) h nodes'
 state_did h nodes nodes' c f clear says keeps stays = record {
   turned = λ p heads g t. not_turned h p heads (λ n size. input_refusal n size c) clear g t;
@@ -56,7 +54,7 @@ state_did h nodes nodes' c f clear says keeps stays = record {
 -- an accepted call
 pub accepted_did : (h : Header) (nodes : List Node) (c : Call) (h' : Header) (nodes' : List Node) → None ≡ input_refusal h.pins h.size c
     → ((p : Plain) → Holds h nodes p → state_told p c ≡ None) → ((p : Plain) → Holds h nodes p → Holds h' nodes' (changed p c))
-    → ((p : Plain) → Holds h nodes p → (i : ℕ) → Reached (listed nodes) (held (roots h.lines)) i → listed nodes' i ≡ listed nodes i)
+    → ((p : Plain) → Holds h nodes p → (i : ℕ) → Reached (listed nodes) (held h.lines) i → listed nodes' i ≡ listed nodes i)
     → Did h nodes c (Ok tt) h' nodes'
 accepted_did h nodes c h' nodes' clear says holds stays = record {
   turned = λ p heads g t. not_turned h p heads (λ n size. input_refusal n size c) clear g t;
@@ -77,20 +75,20 @@ pub record Puts (h : Header) (nodes : List Node) (c : Call) (d : ℕ) (nodes' : 
   pub new : Selection
   pub tells : state_told p c ≡ too_many_parts p d (Some new) None
   pub puts : changed p c ≡ with_line p d (Some new)
-  pub grew : Grew (pins p) nodes (held (roots h.lines)) (view_of (pins p) p.order new) nodes' root
+  pub grew : Grew (pins p) nodes (held h.lines) (view_of (pins p) p.order new) nodes' root
 
 -- a growth beside the lines, for a plain plan that is held
 pub grown_beside : (h : Header) (nodes : List Node) (p : Plain) (o : Holds h nodes p) (ws : List ℕ) (nodes' : List Node) (root : Option Branch) → 3 * length nodes + 2 ≤ length ws
-    → (t u : Tree) → t ≡ u → Grows h.pins nodes ws (roots h.lines) t nodes' root → Grew (pins p) nodes (held (roots h.lines)) u nodes' root
+    → (t u : Tree) → t ≡ u → Grows h.pins nodes ws h.lines t nodes' root → Grew (pins p) nodes (held h.lines) u nodes' root
 grown_beside h nodes p o ws nodes' root enough t u e grows =
-    let g : Grows (pins p) nodes ws (roots h.lines) u nodes' root =
-    subst (λ (z : Tree). Grows (pins p) nodes ws (roots h.lines) z nodes' root) e (subst (λ (k : ℕ). Grows k nodes ws (roots h.lines) t nodes' root) (sym (heads_pins h p o.heads)) grows) in
+    let g : Grows (pins p) nodes ws h.lines u nodes' root =
+    subst (λ (z : Tree). Grows (pins p) nodes ws h.lines z nodes' root) e (subst (λ (k : ℕ). Grows k nodes ws h.lines t nodes' root) (sym (heads_pins h p o.heads)) grows) in
     let few = h.sized in
     let s = o.heads.size in
     let w = o.whole in
     g o.reachable (diagram h nodes p o) (roots_from h nodes p o) (omega arith) enough
 
-module _ (h : Header) (nodes : List Node) (c : Call) (d : ℕ) (clear : None ≡ input_refusal h.pins h.size c) (small : d < 32) (vacant : get_or h.lines d Empty ≡ Empty) (nodes' : List Node) where
+module _ (h : Header) (nodes : List Node) (c : Call) (d : ℕ) (clear : None ≡ input_refusal h.pins h.size c) (small : d < 32) (vacant : get_or h.lines d None ≡ None) (nodes' : List Node) where
   pub settled_call : (root : Option Branch) (r : Result (Unit {0}) Fault) (h' : Header) → Settles h nodes' d root r h' → ((p : Plain) → Holds h nodes p → Puts h nodes c d nodes' root p) → Did h nodes c r h' nodes'
   settled_call (Some b) r h' s each =
       subst (λ (x : Result (Unit {0}) Fault). Did h nodes c x h' nodes') (sym s.0)

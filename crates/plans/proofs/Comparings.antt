@@ -9,7 +9,6 @@ use Rattle.model.specs.declared.Node.{Node}
 use Rattle.model.specs.Selections.{Selection, Agrees, Alike}
 use Rattle.model.specs.Diagrams.{listed}
 use Rattle.model.proofs.Reach.{one_root}
-use Rattle.tables.specs.declared.line.Line.TheVariants.{Empty, Held}
 use Rattle.plans.specs.declared.header.Header.{Header}
 use Rattle.plans.specs.Plain.{Plain, pins, line, line_empty, no_line, is_held, same_told}
 use Rattle.plans.specs.Holding.{Holds}
@@ -32,16 +31,16 @@ module _ (h : Header) (nodes : List Node) (p : Plain) (o : Holds h nodes p) (a b
   asked : (d : ℕ) (l : Option Selection) (x : Option Fault) → line p d ≡ l → line_empty p d x ≡ line_empty_of d l x
   asked d l x e = ap (λ z. line_empty_of d z x) e
 
-  pub left_empty : (f : Fault) → get_or h.lines a Empty ≡ Empty → f ≡ at LineEmpty a → same_told p a b ≡ Some f
+  pub left_empty : (f : Fault) → get_or h.lines a None ≡ None → f ≡ at LineEmpty a → same_told p a b ≡ Some f
   left_empty f e q = passed ∙ asked a None (line_empty p b None) (empty_line h nodes p o a (line_within a left) e) ∙ ap Some (sym q)
 
-  module _ (x : Branch) (e : get_or h.lines a Empty ≡ Held x) where
-    pub right_empty : (f : Fault) → get_or h.lines b Empty ≡ Empty → f ≡ at LineEmpty b → same_told p a b ≡ Some f
+  module _ (x : Branch) (e : get_or h.lines a None ≡ Some x) where
+    pub right_empty : (f : Fault) → get_or h.lines b None ≡ None → f ≡ at LineEmpty b → same_told p a b ≡ Some f
     right_empty f k q =
         let r = held_line h nodes p o a (line_within a left) x e in
         passed ∙ asked a (Some r.0) (line_empty p b None) r.1 ∙ asked b None None (empty_line h nodes p o b (line_within b right) k) ∙ ap Some (sym q)
 
-    pub both_held : (y : Branch) (is : Bool) → get_or h.lines b Empty ≡ Held y → Decides is (x ≡ y) → (same_told p a b ≡ None) × Decides is (Alike (pins p) (line p a) (line p b))
+    pub both_held : (y : Branch) (is : Bool) → get_or h.lines b None ≡ Some y → Decides is (x ≡ y) → (same_told p a b ≡ None) × Decides is (Alike (pins p) (line p a) (line p b))
     both_held y is k d =
         let r = held_line h nodes p o a (line_within a left) x e in
         let s = held_line h nodes p o b (line_within b right) y k in

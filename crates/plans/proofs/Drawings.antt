@@ -7,8 +7,6 @@ use Rattle.faults.specs.Refusals.{at, refuse_if}
 use Rattle.model.specs.declared.Branch.{Branch}
 use Rattle.model.specs.declared.Node.{Node}
 use Rattle.model.specs.Selections.{Selection, view_of}
-use Rattle.tables.specs.declared.line.Line.TheVariants.{Empty, Held}
-use Rattle.tables.specs.Lines.{roots}
 use Rattle.trees.specs.Mixed.{mixed_blocks}
 use Rattle.growths.specs.Growths.{Grows}
 use Rattle.plans.specs.declared.header.Header.{Header}
@@ -44,13 +42,13 @@ module _ (h : Header) (nodes : List Node) (d m : ℕ) (f : Selection) (tree work
   small = draw_line h.pins h.size d m f (length nodes) tree work clear
 
   -- the line is held already
-  pub draw_taken : (b : Branch) (g : Fault) → get_or h.lines d Empty ≡ Held b → g ≡ at LineTaken d → Did h nodes call (Err g) h nodes
+  pub draw_taken : (b : Branch) (g : Fault) → get_or h.lines d None ≡ Some b → g ≡ at LineTaken d → Did h nodes call (Err g) h nodes
   draw_taken b g e q =
       state_did h nodes nodes call g clear
       (λ p o. let r = held_line h nodes p o d small b e in ap (λ l. refuse_if (is_held l) (at LineTaken d) (refuse_if (ltb tree (length (mixed_blocks m f))) (at TreeTable tree) (too_many_parts p d (Some f) None))) r.1 ∙ ap Some (sym q))
       (λ p o. o) (λ p o i r. refl)
 
-  module _ (vacant : get_or h.lines d Empty ≡ Empty) where
+  module _ (vacant : get_or h.lines d None ≡ None) where
     past_taken : (p : Plain) → Holds h nodes p → state_told p call ≡ refuse_if (ltb tree (length (mixed_blocks m f))) (at TreeTable tree) (too_many_parts p d (Some f) None)
     past_taken p o = ap (λ l. refuse_if (is_held l) (at LineTaken d) (refuse_if (ltb tree (length (mixed_blocks m f))) (at TreeTable tree) (too_many_parts p d (Some f) None))) (empty_line h nodes p o d small vacant)
 
@@ -66,7 +64,7 @@ module _ (h : Header) (nodes : List Node) (d m : ℕ) (f : Selection) (tree work
       past_tree : (p : Plain) → Holds h nodes p → state_told p call ≡ too_many_parts p d (Some f) None
       past_tree p o = past_taken p o ∙ ap (λ t. refuse_if t (at TreeTable tree) (too_many_parts p d (Some f) None)) (le-ltb tree (length (mixed_blocks m f)) room)
 
-      pub drawn : (root : Option Branch) (r : Result (Unit {0}) Fault) (h' : Header) → Grows h.pins nodes ws (roots h.lines) (view_of h.pins (order_of h) f) nodes' root → Settles h nodes' d root r h' → Did h nodes call r h' nodes'
+      pub drawn : (root : Option Branch) (r : Result (Unit {0}) Fault) (h' : Header) → Grows h.pins nodes ws h.lines (view_of h.pins (order_of h) f) nodes' root → Settles h nodes' d root r h' → Did h nodes call r h' nodes'
       drawn root r h' grows s =
           settled_call h nodes call d clear small vacant nodes' root r h' s
           (λ p o. record { new = f; tells = past_tree p o; puts = refl; grew = grown_beside h nodes p o ws nodes' root enough (view_of h.pins (order_of h) f) (view_of (pins p) p.order f) (same_view p o) grows })

@@ -11,9 +11,6 @@ use Rattle.model.proofs.Lists.{pigeonhole, in_map, from_map, in_held, from_held,
 use Rattle.model.proofs.Grow.{follow_kept, from_wider}
 use Rattle.model.proofs.Walks.{tree_means}
 use Rattle.model.proofs.Reach.{means_views, follow_in}
-use Rattle.tables.specs.declared.line.Line.{Line}
-use Rattle.tables.specs.declared.line.Line.TheVariants.{Empty, Held}
-use Rattle.tables.specs.Lines.{roots}
 use Rattle.tables.specs.Markings.{Diagram}
 use Rattle.tables.proofs.Counts.{live_list, from_live, apart_live, counts_filled, filled_le, in_live}
 use Rattle.growths.specs.Growths.{Grew}
@@ -27,7 +24,7 @@ use Rattle.plans.proofs.Reckonings.{used_holds}
 use Rattle.plans.proofs.Rebuilding.{lines_set, in_set, put_holds}
 
 -- lines are as many on both sides
-lines_long : (R : Option Branch → Option Selection → Type 0) (xs : List Line) (ys : List (Option Selection)) → LineForLine R (roots xs) ys → length ys ≡ length xs
+lines_long : (R : Option Branch → Option Selection → Type 0) (xs : List (Option Branch)) (ys : List (Option Selection)) → LineForLine R xs ys → length ys ≡ length xs
 lines_long R [] [] l = refl
 lines_long R [] (y ∷ ys) l = absurd l
 lines_long R (x ∷ xs) [] l = absurd l
@@ -47,18 +44,18 @@ still_in (x ∷ xs) (suc d) y z e (inl q) = inl q
 still_in (x ∷ xs) (suc d) y z e (inr m) = inr (still_in xs d y z e m)
 
 -- roots that keep their trees mean the same in another table
-means_kept : (n : ℕ) (order : List ℕ) → Order n order → (T T' : Table) (xs : List Line) (ys : List (Option Selection)) → ((b : Branch) → In b (held (roots xs)) → tree T' n 0 b ≡ tree T n 0 b)
-    → LineForLine (Means n T order) (roots xs) ys → LineForLine (Means n T' order) (roots xs) ys
+means_kept : (n : ℕ) (order : List ℕ) → Order n order → (T T' : Table) (xs : List (Option Branch)) (ys : List (Option Selection)) → ((b : Branch) → In b (held xs) → tree T' n 0 b ≡ tree T n 0 b)
+    → LineForLine (Means n T order) xs ys → LineForLine (Means n T' order) xs ys
 means_kept n order o T T' [] [] k l = tt
 means_kept n order o T T' [] (y ∷ ys) k l = absurd l
 means_kept n order o T T' (x ∷ xs) [] k l = absurd l
-means_kept n order o T T' (Empty ∷ xs) (None ∷ ys) k l = (tt, means_kept n order o T T' xs ys k l.1)
-means_kept n order o T T' (Empty ∷ xs) (Some f ∷ ys) k l = absurd l.0
-means_kept n order o T T' (Held b ∷ xs) (None ∷ ys) k l = absurd l.0
-means_kept n order o T T' (Held b ∷ xs) (Some f ∷ ys) k l =
+means_kept n order o T T' (None ∷ xs) (None ∷ ys) k l = (tt, means_kept n order o T T' xs ys k l.1)
+means_kept n order o T T' (None ∷ xs) (Some f ∷ ys) k l = absurd l.0
+means_kept n order o T T' (Some b ∷ xs) (None ∷ ys) k l = absurd l.0
+means_kept n order o T T' (Some b ∷ xs) (Some f ∷ ys) k l =
     ((tree_means n order o T' b f).0 (k b (inl refl) ∙ (tree_means n order o T b f).1 l.0), means_kept n order o T T' xs ys (λ c m. k c (inr m)) l.1)
 
-module _ (h : Header) (nodes : List Node) (p : Plain) (o : Holds h nodes p) (d : ℕ) (small : d < 32) (vacant : get_or h.lines d Empty ≡ Empty) (f : Selection) where
+module _ (h : Header) (nodes : List Node) (p : Plain) (o : Holds h nodes p) (d : ℕ) (small : d < 32) (vacant : get_or h.lines d None ≡ None) (f : Selection) where
   abbrev n : ℕ
   n = pins p
 
@@ -71,11 +68,11 @@ module _ (h : Header) (nodes : List Node) (p : Plain) (o : Holds h nodes p) (d :
   new_in : In (view_of n p.order f) ts
   new_in = selection_in f (set_in p.lines d (Some f) (let e = lines_long (Means n (listed nodes) p.order) h.lines p.lines o.lines in let k = h.lined in omega arith))
 
-  old_in : (b : Branch) → In b (held (roots h.lines)) → In (tree (listed nodes) n 0 b) ts
+  old_in : (b : Branch) → In b (held h.lines) → In (tree (listed nodes) n 0 b) ts
   old_in b m =
-      let e : map (tree (listed nodes) n 0) (held (roots h.lines)) ≡ held (views n p.order p.lines) =
-      sym (held_map (tree (listed nodes) n 0) (roots h.lines)) ∙ ap held (means_views n p.order (order_is h nodes p o) (listed nodes) (roots h.lines) p.lines o.lines) in
-      let there = subst (In (tree (listed nodes) n 0 b)) e (in_map (tree (listed nodes) n 0) b (held (roots h.lines)) m) in
+      let e : map (tree (listed nodes) n 0) (held h.lines) ≡ held (views n p.order p.lines) =
+      sym (held_map (tree (listed nodes) n 0) h.lines) ∙ ap held (means_views n p.order (order_is h nodes p o) (listed nodes) h.lines p.lines o.lines) in
+      let there = subst (In (tree (listed nodes) n 0 b)) e (in_map (tree (listed nodes) n 0) b (held h.lines) m) in
       let r = from_map (each (view_of n p.order)) (Some (tree (listed nodes) n 0 b)) p.lines (from_held (tree (listed nodes) n 0 b) (views n p.order p.lines) there) in
       known r.0 r.1 r.2
     where
@@ -87,27 +84,27 @@ module _ (h : Header) (nodes : List Node) (p : Plain) (o : Holds h nodes p) (d :
 
   module _ (nodes' : List Node) where
     -- no room: there are more parts than nodes
-    pub too_many : Grew n nodes (held (roots h.lines)) (view_of n p.order f) nodes' None → ltb p.size (used_of (with_line p d (Some f))) ≡ true
+    pub too_many : Grew n nodes (held h.lines) (view_of n p.order f) nodes' None → ltb p.size (used_of (with_line p d (Some f))) ≡ true
     too_many w =
-        let l = root_refused n nodes (held (roots h.lines)) (view_of n p.order f) nodes' o.reachable (diagram h nodes p o) (roots_from h nodes p o) w ts old_in new_in in
+        let l = root_refused n nodes (held h.lines) (view_of n p.order f) nodes' o.reachable (diagram h nodes p o) (roots_from h nodes p o) w ts old_in new_in in
         let s = w.outcome.grown.size in
         let k = o.whole in
         lt-ltb p.size (used_of (with_line p d (Some f))) (omega arith)
 
     -- a root was grown, and stands on the line
-    module _ (b : Branch) (w : Grew n nodes (held (roots h.lines)) (view_of n p.order f) nodes' (Some b)) (h' : Header) (put : Put h nodes' d (Held b) h') where
+    module _ (b : Branch) (w : Grew n nodes (held h.lines) (view_of n p.order f) nodes' (Some b)) (h' : Header) (put : Put h nodes' d (Some b) h') where
       abbrev live : List ℕ
       live = live_list w.marks'
 
-      kept : (c : Branch) → In c (held (roots h.lines)) → From (λ i. In i live) (listed nodes') 0 c × (tree (listed nodes') n 0 c ≡ tree (listed nodes) n 0 c)
-      kept = root_kept n nodes (held (roots h.lines)) (view_of n p.order f) nodes' o.reachable (diagram h nodes p o) (roots_from h nodes p o) w
+      kept : (c : Branch) → In c (held h.lines) → From (λ i. In i live) (listed nodes') 0 c × (tree (listed nodes') n 0 c ≡ tree (listed nodes) n 0 c)
+      kept = root_kept n nodes (held h.lines) (view_of n p.order f) nodes' o.reachable (diagram h nodes p o) (roots_from h nodes p o) w
 
       new : From (λ i. In i live) (listed nodes') 0 b × (tree (listed nodes') n 0 b ≡ view_of n p.order f)
-      new = root_new n nodes (held (roots h.lines)) (view_of n p.order f) nodes' o.reachable (diagram h nodes p o) (roots_from h nodes p o) b w
+      new = root_new n nodes (held h.lines) (view_of n p.order f) nodes' o.reachable (diagram h nodes p o) (roots_from h nodes p o) b w
 
-      from' : (c : Branch) → In c (held (roots (set h.lines d (Held b)))) → From (λ i. In i live) (listed nodes') 0 c
+      from' : (c : Branch) → In c (held ((set h.lines d (Some b)))) → From (λ i. In i live) (listed nodes') 0 c
       from' c m =
-          elim (in_set c h.lines d (Held b) m) [
+          elim (in_set c h.lines d (Some b) m) [
             | inl q ↦ (kept c q).0
             | inr q ↦ (let e : b ≡ c = cc in subst (λ (x : Branch). From (λ i. In i live) (listed nodes') 0 x) e new.0)
           ]
@@ -116,12 +113,12 @@ module _ (h : Header) (nodes : List Node) (p : Plain) (o : Holds h nodes p) (d :
       whole' = w.outcome.grown.size ∙ o.whole
 
       live_nodes : Diagram n nodes' live
-      live_nodes = grown_diagram n nodes (held (roots h.lines)) (view_of n p.order f) nodes' o.reachable (diagram h nodes p o) (roots_from h nodes p o) w
+      live_nodes = grown_diagram n nodes (held h.lines) (view_of n p.order f) nodes' o.reachable (diagram h nodes p o) (roots_from h nodes p o) w
 
       pub holds_new : Holds h' nodes' (with_line p d (Some f))
       holds_new =
-          put_holds h nodes' p o.heads d (Held b) (Some f) h' put whole' live live_nodes.ordered live_nodes.reduced from'
-          (lines_set (Means n (listed nodes') p.order) h.lines p.lines d (Held b) (Some f)
+          put_holds h nodes' p o.heads d (Some b) (Some f) h' put whole' live live_nodes.ordered live_nodes.reduced from'
+          (lines_set (Means n (listed nodes') p.order) h.lines p.lines d (Some b) (Some f)
           (means_kept n p.order (order_is h nodes p o) (listed nodes) (listed nodes') h.lines p.lines (λ c m. (kept c m).1) o.lines)
           ((tree_means n p.order (order_is h nodes p o) (listed nodes') b f).0 new.1))
 
@@ -140,17 +137,17 @@ module _ (h : Header) (nodes : List Node) (p : Plain) (o : Holds h nodes p) (d :
           reach_live : (q : Holds h' nodes' (with_line p d (Some f))) (i : ℕ) → In i q.reachable → In i live
           reach_live q i m =
               let r = q.reached.reached i m in
-              follow_in n (listed nodes') (λ i. In i live) live_nodes.ordered r.2.0 0 r.0 i (from' r.0 (subst (λ (ls : List Line). In r.0 (held (roots ls))) put.lines r.1)) r.2.1
+              follow_in n (listed nodes') (λ i. In i live) live_nodes.ordered r.2.0 0 r.0 i (from' r.0 (subst (λ (ls : List (Option Branch)). In r.0 (held ls)) put.lines r.1)) r.2.1
 
-    pub stands : {r : Option Branch} → Grew n nodes (held (roots h.lines)) (view_of n p.order f) nodes' r → (i : ℕ) → Reached (listed nodes) (held (roots h.lines)) i → listed nodes' i ≡ listed nodes i
-    stands w i q = reached_kept n nodes (held (roots h.lines)) (view_of n p.order f) nodes' o.reachable (diagram h nodes p o) (roots_from h nodes p o) w i q
+    pub stands : {r : Option Branch} → Grew n nodes (held h.lines) (view_of n p.order f) nodes' r → (i : ℕ) → Reached (listed nodes) (held h.lines) i → listed nodes' i ≡ listed nodes i
+    stands w i q = reached_kept n nodes (held h.lines) (view_of n p.order f) nodes' o.reachable (diagram h nodes p o) (roots_from h nodes p o) w i q
 
 -- a refused growth leaves the plan with what it held
-pub kept_holds : (h : Header) (nodes : List Node) (p : Plain) (o : Holds h nodes p) (nodes' : List Node) (f : Selection) (d : ℕ) → d < 32 → get_or h.lines d Empty ≡ Empty
-    → {r : Option Branch} → Grew (pins p) nodes (held (roots h.lines)) (view_of (pins p) p.order f) nodes' r → Holds h nodes' p
+pub kept_holds : (h : Header) (nodes : List Node) (p : Plain) (o : Holds h nodes p) (nodes' : List Node) (f : Selection) (d : ℕ) → d < 32 → get_or h.lines d None ≡ None
+    → {r : Option Branch} → Grew (pins p) nodes (held h.lines) (view_of (pins p) p.order f) nodes' r → Holds h nodes' p
 kept_holds h nodes p o nodes' f d small vacant w =
     let n = pins p in
-    let rs = held (roots h.lines) in
+    let rs = held h.lines in
     let T = listed nodes in
     let T' = listed nodes' in
     let t = view_of n p.order f in

@@ -10,9 +10,6 @@ use Rattle.model.specs.Lists.{In, held, LineForLine}
 use Rattle.model.specs.Orders.{Order}
 use Rattle.model.specs.Selections.{Selection, Agrees}
 use Rattle.model.specs.Diagrams.{Table, listed, meant, Means, From}
-use Rattle.tables.specs.declared.line.Line.{Line}
-use Rattle.tables.specs.declared.line.Line.TheVariants.{Empty, Held}
-use Rattle.tables.specs.Lines.{root, roots}
 use Rattle.tables.specs.Markings.{Diagram}
 use Rattle.plans.specs.declared.header.Header.{Header}
 use Rattle.plans.specs.Orders.{misplaced_below}
@@ -46,8 +43,8 @@ pub not_turned : {A : Type 0} (h : Header) (p : Plain) → Heads h p → (F : �
 not_turned h p o F n f e = absurd (none_some (F (pins p) p.size) f (n ∙ sym (at_header h p o F)) e)
 
 -- line for line, at a line
-for_line : (R : Option Branch → Option Selection → Type 0) (xs : List Line) (ys : List (Option Selection)) → LineForLine R (roots xs) ys → (d : ℕ) → d < length xs
-    → R (root (get_or xs d Empty)) (get_or ys d None)
+for_line : (R : Option Branch → Option Selection → Type 0) (xs : List (Option Branch)) (ys : List (Option Selection)) → LineForLine R xs ys → (d : ℕ) → d < length xs
+    → R ((get_or xs d None)) (get_or ys d None)
 for_line R [] ys l d h = absurd (omega arith)
 for_line R (x ∷ xs) [] l d h = absurd l
 for_line R (x ∷ xs) (y ∷ ys) l zero h = l.0
@@ -62,12 +59,12 @@ means_none n T order None m = refl
 means_none n T order (Some f) m = absurd m
 
 -- a held root stands in the list
-root_in : (b : Branch) (xs : List Line) (d : ℕ) → d < length xs → get_or xs d Empty ≡ Held b → In b (held (roots xs))
+root_in : (b : Branch) (xs : List (Option Branch)) (d : ℕ) → d < length xs → get_or xs d None ≡ Some b → In b (held xs)
 root_in b [] d h e = absurd (omega arith)
-root_in b (Empty ∷ xs) zero h e = let z : ◌≡◌ {A = ℕ} 0 1 = cc in absurd (omega arith)
-root_in b (Held x ∷ xs) zero h e = inl (let q : b ≡ x = cc in q)
-root_in b (Empty ∷ xs) (suc d) h e = root_in b xs d (omega arith) e
-root_in b (Held x ∷ xs) (suc d) h e = inr (root_in b xs d (omega arith) e)
+root_in b (None ∷ xs) zero h e = let z : ◌≡◌ {A = ℕ} 0 1 = cc in absurd (omega arith)
+root_in b (Some x ∷ xs) zero h e = inl (let q : b ≡ x = cc in q)
+root_in b (None ∷ xs) (suc d) h e = root_in b xs d (omega arith) e
+root_in b (Some x ∷ xs) (suc d) h e = inr (root_in b xs d (omega arith) e)
 
 module _ (h : Header) (nodes : List Node) (p : Plain) (o : Holds h nodes p) where
   pub order_is : Order (pins p) p.order
@@ -77,7 +74,7 @@ module _ (h : Header) (nodes : List Node) (p : Plain) (o : Holds h nodes p) wher
   diagram = record { ordered = o.ordered; reduced = o.reduced }
 
   -- the roots stand among the reachable nodes
-  pub roots_from : (b : Branch) → In b (held (roots h.lines)) → From (λ i. In i o.reachable) (listed nodes) 0 b
+  pub roots_from : (b : Branch) → In b (held h.lines) → From (λ i. In i o.reachable) (listed nodes) 0 b
   roots_from (end c) m = tt
   roots_from (node i) m = (o.reached.all i (node i, m, ([], refl)), omega arith)
 
@@ -85,17 +82,17 @@ module _ (h : Header) (nodes : List Node) (p : Plain) (o : Holds h nodes p) wher
     inside : d < length h.lines
     inside = let e = h.lined in omega arith
 
-    pub held_line : (b : Branch) → get_or h.lines d Empty ≡ Held b → (f : Selection) × (line p d ≡ Some f) × Agrees (pins p) (meant (pins p) (listed nodes) p.order b) f
+    pub held_line : (b : Branch) → get_or h.lines d None ≡ Some b → (f : Selection) × (line p d ≡ Some f) × Agrees (pins p) (meant (pins p) (listed nodes) p.order b) f
     held_line b e =
         means_some (pins p) (listed nodes) p.order b (line p d)
-        (subst (λ (x : Line). Means (pins p) (listed nodes) p.order (root x) (line p d)) e (for_line (Means (pins p) (listed nodes) p.order) h.lines p.lines o.lines d inside))
+        (subst (λ (x : Option Branch). Means (pins p) (listed nodes) p.order x (line p d)) e (for_line (Means (pins p) (listed nodes) p.order) h.lines p.lines o.lines d inside))
 
-    pub empty_line : get_or h.lines d Empty ≡ Empty → line p d ≡ None
+    pub empty_line : get_or h.lines d None ≡ None → line p d ≡ None
     empty_line e =
         means_none (pins p) (listed nodes) p.order (line p d)
-        (subst (λ (x : Line). Means (pins p) (listed nodes) p.order (root x) (line p d)) e (for_line (Means (pins p) (listed nodes) p.order) h.lines p.lines o.lines d inside))
+        (subst (λ (x : Option Branch). Means (pins p) (listed nodes) p.order x (line p d)) e (for_line (Means (pins p) (listed nodes) p.order) h.lines p.lines o.lines d inside))
 
-    pub root_stands : (b : Branch) → get_or h.lines d Empty ≡ Held b → In b (held (roots h.lines))
+    pub root_stands : (b : Branch) → get_or h.lines d None ≡ Some b → In b (held h.lines)
     root_stands b e = root_in b h.lines d inside e
 
 -- the refusal of a line that should be held

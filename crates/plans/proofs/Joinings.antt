@@ -13,8 +13,6 @@ use Rattle.model.specs.Selections.{Selection, view_of}
 use Rattle.model.specs.Diagrams.{listed, tree}
 use Rattle.model.proofs.Views.{joins}
 use Rattle.model.proofs.Walks.{tree_means}
-use Rattle.tables.specs.declared.line.Line.TheVariants.{Empty, Held}
-use Rattle.tables.specs.Lines.{roots}
 use Rattle.growths.specs.Codes.{all_codes}
 use Rattle.growths.specs.Growths.{Grows}
 use Rattle.growths.proofs.Passing.{every_address_passes}
@@ -100,19 +98,19 @@ module _ (h : Header) (nodes : List Node) (decoding : ℕ → Bool) (g : ℕ →
       refuse_if (not (is_held x)) (at LineEmpty a) (refuse_if (not (is_held y)) (at LineEmpty b) (refuse_if (is_held z) (at LineTaken d)
       (refuse_if (line_undecoded p decoding x) (at Undecoded a) (refuse_if (line_undecoded p decoding y) (at Undecoded b) (too_many_parts p d (join_lines g x y) None)))))
 
-  pub join_empty_left : (f : Fault) → get_or h.lines a Empty ≡ Empty → f ≡ at LineEmpty a → Did h nodes call (Err f) h nodes
+  pub join_empty_left : (f : Fault) → get_or h.lines a None ≡ None → f ≡ at LineEmpty a → Did h nodes call (Err f) h nodes
   join_empty_left f e q =
       state_did h nodes nodes call f clear
       (λ p o. ap (λ x. grounds p x (line p b) (line p d)) (empty_line h nodes p o a left e) ∙ ap Some (sym q)) (λ p o. o) (λ p o i r. refl)
 
-  module _ (x : Branch) (held_a : get_or h.lines a Empty ≡ Held x) where
-    pub join_empty_right : (f : Fault) → get_or h.lines b Empty ≡ Empty → f ≡ at LineEmpty b → Did h nodes call (Err f) h nodes
+  module _ (x : Branch) (held_a : get_or h.lines a None ≡ Some x) where
+    pub join_empty_right : (f : Fault) → get_or h.lines b None ≡ None → f ≡ at LineEmpty b → Did h nodes call (Err f) h nodes
     join_empty_right f e q =
         state_did h nodes nodes call f clear
         (λ p o. ap (λ l. grounds p l (line p b) (line p d)) (held_line h nodes p o a left x held_a).1 ∙ ap (λ l. grounds p (Some (held_line h nodes p o a left x held_a).0) l (line p d)) (empty_line h nodes p o b right e) ∙ ap Some (sym q))
         (λ p o. o) (λ p o i r. refl)
 
-    module _ (y : Branch) (held_b : get_or h.lines b Empty ≡ Held y) where
+    module _ (y : Branch) (held_b : get_or h.lines b None ≡ Some y) where
       module _ (p : Plain) (o : Holds h nodes p) where
         abbrev fa : Selection
         fa = (held_line h nodes p o a left x held_a).0
@@ -131,18 +129,18 @@ module _ (h : Header) (nodes : List Node) (decoding : ℕ → Bool) (g : ℕ →
         means_b = (tree_means (pins p) p.order (order_is h nodes p o) (listed nodes) y fb).1 (held_line h nodes p o b right y held_b).2
 
         -- what the check of a line's codes says
-        checked : (e : ℕ) (l : e < 32) (c : Branch) (held_c : get_or h.lines e Empty ≡ Held c) (f : Selection) → tree (listed nodes) (pins p) 0 c ≡ view_of (pins p) p.order f → (r : Result (Unit {0}) Fault)
+        checked : (e : ℕ) (l : e < 32) (c : Branch) (held_c : get_or h.lines e None ≡ Some c) (f : Selection) → tree (listed nodes) (pins p) 0 c ≡ view_of (pins p) p.order f → (r : Result (Unit {0}) Fault)
             → Checks decoding h.pins nodes c e r → refusal r ≡ refuse_if (undecoded decoding (2 ^ pins p) f) (at Undecoded e) None
         checked e l c held_c f means r check =
             let t = subst (λ (n : ℕ). Checks decoding n nodes c e r) (sym (heads_pins h p o.heads)) check o.reachable (diagram h nodes p o) (roots_from h nodes p o c (root_stands h nodes p o e l c held_c)) in
             t ∙ ap (λ b. refuse_if b (at Undecoded e) None) (ap (λ z. not (all_codes decoding z)) means ∙ sym (undecoded_is (pins p) p.order (order_is h nodes p o) decoding f))
 
-      pub join_taken : (z : Branch) (f : Fault) → get_or h.lines d Empty ≡ Held z → f ≡ at LineTaken d → Did h nodes call (Err f) h nodes
+      pub join_taken : (z : Branch) (f : Fault) → get_or h.lines d None ≡ Some z → f ≡ at LineTaken d → Did h nodes call (Err f) h nodes
       join_taken z f e q =
           state_did h nodes nodes call f clear
           (λ p o. both_held p o (Some (held_line h nodes p o d to z e).0) (held_line h nodes p o d to z e).1 ∙ ap Some (sym q)) (λ p o. o) (λ p o i r. refl)
 
-      module _ (vacant : get_or h.lines d Empty ≡ Empty) where
+      module _ (vacant : get_or h.lines d None ≡ None) where
         -- a test that told a refusal held, and one that told none failed
         told_true : (b : Bool) (f g : Fault) → Some f ≡ refuse_if b g None → (b ≡ true) × (f ≡ g)
         told_true true f g e = (refl, (let q : f ≡ g = cc in q))
@@ -176,7 +174,7 @@ module _ (h : Header) (nodes : List Node) (decoding : ℕ → Bool) (g : ℕ →
               (λ p o. o) (λ p o i r. refl)
 
           pub joined_line : (v : Unit {0}) → Checks decoding h.pins nodes y b (Ok v) → (nodes' : List Node) (ws : List ℕ) → length ws ≡ work → (root : Option Branch) (r : Result (Unit {0}) Fault) (h' : Header)
-              → (In x (held (roots h.lines)) → In y (held (roots h.lines)) → Grows h.pins nodes ws (roots h.lines) (join_trees g (tree (listed nodes) h.pins 0 x) (tree (listed nodes) h.pins 0 y)) nodes' root)
+              → (In x (held h.lines) → In y (held h.lines) → Grows h.pins nodes ws h.lines (join_trees g (tree (listed nodes) h.pins 0 x) (tree (listed nodes) h.pins 0 y)) nodes' root)
               → Settles h nodes' d root r h' → Did h nodes call r h' nodes'
           joined_line v good_b nodes' ws long root r h' grows s =
               settled_call h nodes call d clear to vacant nodes' root r h' s

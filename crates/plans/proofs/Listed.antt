@@ -1,10 +1,11 @@
 -- Listing a plan.
-use Rattle.std.proofs.Common.{◌≡◌, ℕ, suc, ◌+◌, ◌*◌, ◌≤◌, ltb, ◌↔◌, List, [], ◌∷◌, ◌++◌, length, drop, Some, None, Ok, Err, Result, sym, refl, ap, ◌∙◌, subst, mul-le-mul_right, arith, le-ltb, lt-ltb}
+use Rattle.std.proofs.Common.{Option, ◌≡◌, ℕ, suc, ◌+◌, ◌*◌, ◌≤◌, ltb, ◌↔◌, List, [], ◌∷◌, ◌++◌, length, drop, Some, None, Ok, Err, Result, sym, refl, ap, ◌∙◌, subst, mul-le-mul_right, arith, le-ltb, lt-ltb}
 use Rattle.std.proofs.lemmas.Bool.Decides.{nat_tests}
 use Rattle.std.proofs.lemmas.List.{length-map}
 use Rattle.faults.specs.declared.fault.Fault.{Fault}
 use Rattle.faults.specs.declared.fault.Ground.TheVariants.{Buffer}
 use Rattle.faults.specs.Refusals.{at, refuse_if, or_else}
+use Rattle.model.specs.declared.Branch.{Branch}
 use Rattle.model.specs.declared.Node.{Node}
 use Rattle.model.specs.Lists.{each, LineForLine}
 use Rattle.model.specs.Selections.{views, view_of, Alike}
@@ -14,8 +15,6 @@ use Rattle.model.specs.Listings.{bytes}
 use Rattle.model.proofs.Lists.{in_held}
 use Rattle.model.proofs.Bytes.{bytes_length, bytes_tell_selections}
 use Rattle.model.proofs.Laying.{listing_of_selections}
-use Rattle.tables.specs.declared.line.Line.{Line}
-use Rattle.tables.specs.Lines.{root, roots}
 use Rattle.listings.specs.Lists.{ListsLines, ListsBytes}
 use Rattle.plans.specs.declared.header.Header.{Header}
 use Rattle.plans.specs.Plain.{Plain, pins, other_tables, work_size}
@@ -44,7 +43,7 @@ tables_right n size nodes work e = (grind (arith, nat_tests), grind (arith, nat_
 module _ (h : Header) (nodes : List Node) (work : ℕ) (buffer : List ℕ) (clear : None ≡ other_tables h.pins h.size (length nodes) work) where
   module _ (p : Plain) (o : Holds h nodes p) where
     lines_all : length p.lines ≡ 32
-    lines_all = sym (as_long (Means (pins p) (listed nodes) p.order) (roots h.lines) p.lines o.lines) ∙ (length-map h.lines root ∙ h.lined)
+    lines_all = sym (as_long (Means (pins p) (listed nodes) p.order) h.lines p.lines o.lines) ∙ h.lined
 
     long : length (listing_of p) ≡ listing_length p
     long = listings_tell.long p lines_all
@@ -52,12 +51,12 @@ module _ (h : Header) (nodes : List Node) (work : ℕ) (buffer : List ℕ) (clea
     clear_p : other_tables (pins p) p.size (length nodes) work ≡ None
     clear_p = at_header h p o.heads (λ n size. other_tables n size (length nodes) work) ∙ sym clear
 
-    laid_out : bytes p.order (listing (listed nodes) (pins p) (roots h.lines)) ≡ listing_of p
+    laid_out : bytes p.order (listing (listed nodes) (pins p) h.lines) ≡ listing_of p
     unfolding listing_of
     laid_out =
         ap (bytes p.order)
-        (listing_of_selections (pins p) p.order (order_is h nodes p o) (listed nodes) o.reachable o.ordered o.reduced (roots h.lines)
-        (λ b m. roots_from h nodes p o b (in_held b (roots h.lines) m)) p.lines o.lines)
+        (listing_of_selections (pins p) p.order (order_is h nodes p o) (listed nodes) o.reachable o.ordered o.reduced h.lines
+        (λ b m. roots_from h nodes p o b (in_held b h.lines m)) p.lines o.lines)
 
     told_by : (r : Result ℕ Fault) (buffer' : List ℕ) → ListsBytes (listing_of p) buffer r buffer'
         → ToldValue r (list_told p (length nodes) work (length buffer)) (λ k. (k ≡ length (listing_of p)) × (buffer' ≡ listing_of p ++ drop k buffer))
@@ -74,7 +73,7 @@ module _ (h : Header) (nodes : List Node) (work : ℕ) (buffer : List ℕ) (clea
         ap (λ t. or_else t (refuse_if (ltb (length buffer) (listing_length p)) (at Buffer (listing_length p)) None)) clear_p
         ∙ (ap (λ t. refuse_if t (at Buffer (listing_length p)) None) (lt-ltb (length buffer) (listing_length p) (omega arith)) ∙ ap Some (ap (at Buffer) (sym e) ∙ sym w.1))
 
-  pub listed_plan : (order : List ℕ) (lines : List Line) (r : Result ℕ Fault) (buffer' : List ℕ) → order ≡ order_of h → lines ≡ h.lines → ListsLines nodes work order (roots lines) buffer r buffer' → Lists h nodes work buffer r buffer'
+  pub listed_plan : (order : List ℕ) (lines : List (Option Branch)) (r : Result ℕ Fault) (buffer' : List ℕ) → order ≡ order_of h → lines ≡ h.lines → ListsLines nodes work order lines buffer r buffer' → Lists h nodes work buffer r buffer'
   listed_plan order lines r buffer' e q w = record {
     turned = λ p heads f t. not_turned h p heads (λ n size. other_tables n size (length nodes) work) clear f t;
     tells = λ p o. told_by p o r buffer' (subst (λ (bs : List ℕ). ListsBytes bs buffer r buffer') (laid_out p o) (lists p o));
@@ -82,11 +81,11 @@ module _ (h : Header) (nodes : List Node) (work : ℕ) (buffer : List ℕ) (clea
     kept = w.kept;
   }
     where
-      lists : (p : Plain) (o : Holds h nodes p) → ListsBytes (bytes p.order (listing (listed nodes) (pins p) (roots h.lines))) buffer r buffer'
+      lists : (p : Plain) (o : Holds h nodes p) → ListsBytes (bytes p.order (listing (listed nodes) (pins p) h.lines)) buffer r buffer'
       lists p o =
           let same : order ≡ p.order = e ∙ sym o.heads.order in
-          let w' : ListsLines nodes work p.order (roots h.lines) buffer r buffer' =
-          subst (λ (ls : List Line). ListsLines nodes work p.order (roots ls) buffer r buffer') q (subst (λ (ps : List ℕ). ListsLines nodes work ps (roots lines) buffer r buffer') same w) in
+          let w' : ListsLines nodes work p.order h.lines buffer r buffer' =
+          subst (λ (ls : List (Option Branch)). ListsLines nodes work p.order ls buffer r buffer') q (subst (λ (ps : List ℕ). ListsLines nodes work ps lines buffer r buffer') same w) in
           let t = tables_right h.pins h.size (length nodes) work clear in
           let a = t.0 in
           let k = heads_pins h p o.heads in

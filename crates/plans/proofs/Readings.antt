@@ -8,7 +8,6 @@ use Rattle.model.specs.declared.Branch.{Branch}
 use Rattle.model.specs.declared.Node.{Node}
 use Rattle.model.specs.Lists.{In}
 use Rattle.model.specs.Diagrams.{listed, meant, walk}
-use Rattle.tables.specs.declared.line.Line.TheVariants.{Empty, Held}
 use Rattle.plans.specs.declared.header.Header.{Header}
 use Rattle.plans.specs.Plain.{Plain, pins, line, code_of, read_refusal, read_told}
 use Rattle.plans.specs.Holding.{Holds, order_of}
@@ -24,10 +23,10 @@ module _ (h : Header) (nodes : List Node) (p : Plain) (o : Holds h nodes p) (d a
   inside : (d < 32) × (a < 2 ^ pins p)
   inside = read_within (pins p) p.size d a k (sym clear_p)
 
-  pub read_empty : (f : Fault) → get_or h.lines d Empty ≡ Empty → f ≡ at LineEmpty d → read_told p d a k ≡ Some f
+  pub read_empty : (f : Fault) → get_or h.lines d None ≡ None → f ≡ at LineEmpty d → read_told p d a k ≡ Some f
   read_empty f e q = empty_told p d (read_refusal (pins p) p.size d a k) clear_p (empty_line h nodes p o d inside.0 e) ∙ ap Some (sym q)
 
-  pub read_held : (b : Branch) (c : ℕ) → get_or h.lines d Empty ≡ Held b → c ≡ meant (length (order_of h)) (listed nodes) (order_of h) b a → (read_told p d a k ≡ None) × (c ≡ code_of (line p d) a)
+  pub read_held : (b : Branch) (c : ℕ) → get_or h.lines d None ≡ Some b → c ≡ meant (length (order_of h)) (listed nodes) (order_of h) b a → (read_told p d a k ≡ None) × (c ≡ code_of (line p d) a)
   read_held b c e w =
       let r = held_line h nodes p o d inside.0 b e in
       let q : meant (length (order_of h)) (listed nodes) (order_of h) b a ≡ meant (pins p) (listed nodes) p.order b a = ap (λ (ps : List ℕ). meant (length ps) (listed nodes) ps b a) (sym o.heads.order) in

@@ -12,8 +12,6 @@ use Rattle.model.specs.Selections.{Selection}
 use Rattle.model.specs.Diagrams.{listed, follow, Means, From, Reduced, Reached, Reaches}
 use Rattle.model.specs.Numberings.{numbering}
 use Rattle.model.proofs.Reach.{used_is_exact, numbering_reaches, ordered_reached}
-use Rattle.tables.specs.declared.line.Line.TheVariants.{Empty, Held}
-use Rattle.tables.specs.Lines.{roots}
 use Rattle.tables.specs.Indexes.{filled}
 use Rattle.tables.specs.Markings.{MarksRoots, Counts}
 use Rattle.plans.specs.declared.header.Header.{Header}
@@ -38,7 +36,7 @@ reduced_within nodes us vs r w = record { tested = λ i m. r.tested i (w i m); s
 
 module _ (h : Header) (nodes : List Node) (p : Plain) (o : Holds h nodes p) where
   pub used_holds : h.usage.used ≡ used_of p
-  used_holds = o.used ∙ used_is_exact (pins p) p.order (order_is h nodes p o) (listed nodes) (roots h.lines) p.lines o.lines o.reachable o.reached o.ordered o.reduced
+  used_holds = o.used ∙ used_is_exact (pins p) p.order (order_is h nodes p o) (listed nodes) h.lines p.lines o.lines o.reachable o.reached o.ordered o.reduced
 
 count_within : (n size d k work : ℕ) → None ≡ count_refusal n size d k work → d < 32
 count_within n size d k work e = grind (arith, nat_tests)
@@ -50,14 +48,14 @@ module _ (h : Header) (nodes : List Node) (p : Plain) (o : Holds h nodes p) (d k
   inside : d < 32
   inside = count_within (pins p) p.size d k work (sym clear_p)
 
-  pub count_empty : (f : Fault) → get_or h.lines d Empty ≡ Empty → f ≡ at LineEmpty d → count_told p d k work ≡ Some f
+  pub count_empty : (f : Fault) → get_or h.lines d None ≡ None → f ≡ at LineEmpty d → count_told p d k work ≡ Some f
   count_empty f e q = empty_told p d (count_refusal (pins p) p.size d k work) clear_p (empty_line h nodes p o d inside e) ∙ ap Some (sym q)
 
-  pub count_told_held : (b : Branch) → get_or h.lines d Empty ≡ Held b → count_told p d k work ≡ None
+  pub count_told_held : (b : Branch) → get_or h.lines d None ≡ Some b → count_told p d k work ≡ None
   count_told_held b e = let r = held_line h nodes p o d inside b e in held_told p d (count_refusal (pins p) p.size d k work) r.0 clear_p r.1
 
   -- the nodes reached from the one root, and their number
-  pub count_held : (b : Branch) (c : ℕ) → get_or h.lines d Empty ≡ Held b → ReachesMany h.pins nodes (Some b ∷ []) c → (count_told p d k work ≡ None) × (c ≡ count_line p d)
+  pub count_held : (b : Branch) (c : ℕ) → get_or h.lines d None ≡ Some b → ReachesMany h.pins nodes (Some b ∷ []) c → (count_told p d k work ≡ None) × (c ≡ count_line p d)
   count_held b c e many =
       let r = held_line h nodes p o d inside b e in
       let T = listed nodes in

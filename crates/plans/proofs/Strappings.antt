@@ -13,8 +13,6 @@ use Rattle.model.specs.Selections.{Selection, view_of}
 use Rattle.model.specs.Diagrams.{listed, tree}
 use Rattle.model.proofs.Views.{straps}
 use Rattle.model.proofs.Walks.{tree_means}
-use Rattle.tables.specs.declared.line.Line.TheVariants.{Empty, Held}
-use Rattle.tables.specs.Lines.{roots}
 use Rattle.growths.specs.Growths.{Grows}
 use Rattle.plans.specs.declared.header.Header.{Header}
 use Rattle.plans.specs.Plain.{Plain, Call, strap, pins, line, is_held, with_line, strap_line, input_refusal, work_size, too_many_parts}
@@ -54,20 +52,20 @@ module _ (h : Header) (nodes : List Node) (a pin : ℕ) (high : Bool) (d work : 
   abbrev grounds : Plain → Option Selection → Option Selection → Option Fault
   grounds p x y = refuse_if (not (is_held x)) (at LineEmpty a) (refuse_if (is_held y) (at LineTaken d) (too_many_parts p d (strap_line (pins p) pin high x) None))
 
-  pub strap_empty : (g : Fault) → get_or h.lines a Empty ≡ Empty → g ≡ at LineEmpty a → Did h nodes call (Err g) h nodes
+  pub strap_empty : (g : Fault) → get_or h.lines a None ≡ None → g ≡ at LineEmpty a → Did h nodes call (Err g) h nodes
   strap_empty g e q =
       state_did h nodes nodes call g clear
       (λ p o. ap (λ x. grounds p x (line p d)) (empty_line h nodes p o a from e) ∙ ap Some (sym q)) (λ p o. o) (λ p o i r. refl)
 
-  module _ (b : Branch) (held_a : get_or h.lines a Empty ≡ Held b) where
-    pub strap_taken : (x : Branch) (g : Fault) → get_or h.lines d Empty ≡ Held x → g ≡ at LineTaken d → Did h nodes call (Err g) h nodes
+  module _ (b : Branch) (held_a : get_or h.lines a None ≡ Some b) where
+    pub strap_taken : (x : Branch) (g : Fault) → get_or h.lines d None ≡ Some x → g ≡ at LineTaken d → Did h nodes call (Err g) h nodes
     strap_taken x g e q =
         state_did h nodes nodes call g clear
         (λ p o. ap (λ l. grounds p l (line p d)) (held_line h nodes p o a from b held_a).1 ∙ ap (λ l. grounds p (Some (held_line h nodes p o a from b held_a).0) l) (held_line h nodes p o d to x e).1 ∙ ap Some (sym q))
         (λ p o. o) (λ p o i r. refl)
 
-    pub strapped_line : get_or h.lines d Empty ≡ Empty → (nodes' : List Node) (ws : List ℕ) → length ws ≡ work → (root : Option Branch) (r : Result (Unit {0}) Fault) (h' : Header)
-        → (In b (held (roots h.lines)) → Grows h.pins nodes ws (roots h.lines) (strap_tree (place_in (order_of h) pin) high (tree (listed nodes) h.pins 0 b)) nodes' root)
+    pub strapped_line : get_or h.lines d None ≡ None → (nodes' : List Node) (ws : List ℕ) → length ws ≡ work → (root : Option Branch) (r : Result (Unit {0}) Fault) (h' : Header)
+        → (In b (held h.lines) → Grows h.pins nodes ws h.lines (strap_tree (place_in (order_of h) pin) high (tree (listed nodes) h.pins 0 b)) nodes' root)
         → Settles h nodes' d root r h' → Did h nodes call r h' nodes'
     strapped_line vacant nodes' ws long root r h' grows s =
         settled_call h nodes call d clear to vacant nodes' root r h' s

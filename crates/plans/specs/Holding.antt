@@ -5,7 +5,6 @@ use Rattle.model.specs.declared.Node.{Node}
 use Rattle.model.specs.Lists.{In, held, LineForLine}
 use Rattle.model.specs.Selections.{Alike}
 use Rattle.model.specs.Diagrams.{listed, Means, Ordered, Reduced, Reached, Reaches}
-use Rattle.tables.specs.Lines.{roots}
 use Rattle.plans.specs.declared.header.Header.{Header}
 use Rattle.plans.specs.Results.{refusal}
 use Rattle.plans.specs.Plain.{Plain, Call, pins, line, used_of, code_of, count_line, empty_plan, make_told, input_told, told, after, read_refusal, read_told, count_refusal, count_told, same_told}
@@ -25,10 +24,10 @@ pub record Holds (h : Header) (nodes : List Node) (p : Plain) : Type 0 where
   pub heads : Heads h p
   pub whole : length nodes ≡ p.size
   pub reachable : List ℕ
-  pub reached : Reaches (listed nodes) (held (roots h.lines)) reachable
+  pub reached : Reaches (listed nodes) (held h.lines) reachable
   pub ordered : Ordered (pins p) (listed nodes) (λ i. In i reachable)
   pub reduced : Reduced (listed nodes) (λ i. In i reachable)
-  pub lines : LineForLine (Means (pins p) (listed nodes) p.order) (roots h.lines) p.lines
+  pub lines : LineForLine (Means (pins p) (listed nodes) p.order) h.lines p.lines
   pub used : h.usage.used ≡ length reachable
 
 -- What a call did, whatever plain plan was held at its entry.
@@ -38,7 +37,7 @@ pub record Did (h : Header) (nodes : List Node) (c : Call) (r : Result (Unit {0}
   pub tells : (p : Plain) → Holds h nodes p → refusal r ≡ told p c
   pub leaves : (p : Plain) → Holds h nodes p → Holds h' nodes' (after p c)
   -- reachable nodes stand as they stood, and a refused call leaves the plan as it was
-  pub stand : (p : Plain) → Holds h nodes p → (i : ℕ) → Reached (listed nodes) (held (roots h.lines)) i → listed nodes' i ≡ listed nodes i
+  pub stand : (p : Plain) → Holds h nodes p → (i : ℕ) → Reached (listed nodes) (held h.lines) i → listed nodes' i ≡ listed nodes i
   pub same : (f : Fault) → r ≡ Err f → h' ≡ h
 
 -- a plan that was made of an order and a node table: nothing is refused, and it holds the plain plan with nothing on any line

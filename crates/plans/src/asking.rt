@@ -2,7 +2,6 @@
 ghost use Rattle.std.specs.Prelude.{◌≡◌, ◌≤◌, length, Decides};
 ghost use Rattle.plans.specs.Holding.{order_of, Reads, Counts, Compares, Uses};
 ghost use Rattle.plans.specs.Reaching.{ReachesMany};
-ghost use Rattle.tables.specs.Lines.{roots};
 
 use crate::checks::{check_held, check_line, check_read, root_of};
 use crate::header::Header;
@@ -15,7 +14,7 @@ use tables::marking::{count_marks, mark_roots};
 // How many nodes are reached from some lines.
 pub(crate) fn reached_count(nodes: &[Node], work: &mut [u32], pins: u8, lines: &[Line]) -> u16
     requires { (length nodes.now ≤ 4096) × (length nodes.now ≤ length work.old) }
-    ensures { ReachesMany pins nodes.now (roots lines.now) result }
+    ensures { ReachesMany pins nodes.now lines.now result }
 {
     let len = nodes.len();
     let (marks, _) = work.split_at_mut(len);
@@ -80,6 +79,6 @@ impl OpenPlan {
     {
         check_held(&self.header, line, nodes.len(), work.len())?;
         let root = root_of(&self.header, line)?;
-        Ok(reached_count(nodes, work, self.header.pins, &[Line::Held(root)]))
+        Ok(reached_count(nodes, work, self.header.pins, &[Some(root)]))
     }
 }

@@ -2,7 +2,6 @@
 ghost use Rattle.std.specs.Prelude.{◌≡◌, ℕ, ◌^◌, ◌<◌, ◌≤◌, length, None, MatchResult, slice_index_or};
 ghost use Rattle.faults.specs.Refusals.{at};
 ghost use Rattle.faults.specs.declared.fault.Ground.TheVariants.{LineEmpty, LineTaken};
-ghost use Rattle.tables.specs.declared.line.Line.TheVariants.{Empty, Held};
 ghost use Rattle.plans.specs.Plain.{no_line, other_table, other_tables, count_refusal, read_refusal};
 ghost use Rattle.plans.specs.Results.{refusal};
 
@@ -61,10 +60,10 @@ pub(crate) fn check_read(header: &Header, line: u8, address: u32, nodes: usize) 
 // The root of a held line; an empty one stops the call.
 pub(crate) fn root_of(header: &Header, line: u8) -> Result<Branch, Fault>
     requires { line < 32 }
-    ensures { MatchResult result (λ root. slice_index_or header.now.lines line Empty ≡ Held root) (λ f. (slice_index_or header.now.lines line Empty ≡ Empty) × (f ≡ at LineEmpty line)) }
+    ensures { MatchResult result (λ root. slice_index_or header.now.lines line None ≡ Some root) (λ f. (slice_index_or header.now.lines line None ≡ None) × (f ≡ at LineEmpty line)) }
 {
     let line_at = header.lines[line as usize];
-    let Line::Held(root) = line_at else {
+    let Some(root) = line_at else {
         return Err(Ground::LineEmpty.at(line as usize));
     };
     Ok(root)
@@ -73,10 +72,10 @@ pub(crate) fn root_of(header: &Header, line: u8) -> Result<Branch, Fault>
 // A line that is still empty.
 pub(crate) fn check_vacant(header: &Header, line: u8) -> Result<(), Fault>
     requires { line < 32 }
-    ensures { MatchResult result (λ _. slice_index_or header.now.lines line Empty ≡ Empty) (λ f. ((b : Branch) × (slice_index_or header.now.lines line Empty ≡ Held b)) × (f ≡ at LineTaken line)) }
+    ensures { MatchResult result (λ _. slice_index_or header.now.lines line None ≡ None) (λ f. ((b : Branch) × (slice_index_or header.now.lines line None ≡ Some b)) × (f ≡ at LineTaken line)) }
 {
     let line_at = header.lines[line as usize];
-    let Line::Empty = line_at else {
+    let None = line_at else {
         return Err(Ground::LineTaken.at(line as usize));
     };
     Ok(())

@@ -4,7 +4,6 @@ ghost use Rattle.model.specs.Selections.{Selection, view_of};
 ghost use Rattle.plans.specs.Holding.{Did, order_of};
 ghost use Rattle.plans.specs.Plain.{draw, input_refusal};
 ghost use Rattle.plans.specs.Results.{refusal};
-ghost use Rattle.tables.specs.Lines.{roots};
 ghost use Rattle.trees.specs.Mixed.{codes};
 ghost use Rattle.trees.specs.Records.{Built};
 
@@ -37,7 +36,7 @@ fn grow_tree(
     nodes: &mut [Node],
     work: &mut [u32],
 ) -> Option<Branch>
-    ensures { (f : Selection) → Built header.now.pins f records.now tree → Grows header.now.pins nodes.old work.old (roots header.now.lines) (view_of header.now.pins (order_of header.now) f) nodes.new result }
+    ensures { (f : Selection) → Built header.now.pins f records.now tree → Grows header.now.pins nodes.old work.old header.now.lines (view_of header.now.pins (order_of header.now) f) nodes.new result }
 {
     let lines = header.lines;
     draw_root(

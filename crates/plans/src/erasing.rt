@@ -15,7 +15,7 @@ impl OpenPlan {
     {
         check_held(&self.header, line, nodes.len(), work.len())?;
         root_of(&self.header, line)?;
-        self.header.put(line, Line::Empty, nodes, work);
+        self.header.put(line, None, nodes, work);
         Ok(())
     }
 }

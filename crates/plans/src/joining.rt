@@ -8,7 +8,6 @@ ghost use Rattle.plans.specs.Decoding.{Checks};
 ghost use Rattle.plans.specs.Holding.{Did};
 ghost use Rattle.plans.specs.Plain.{join, input_refusal};
 ghost use Rattle.plans.specs.Results.{refusal};
-ghost use Rattle.tables.specs.Lines.{roots};
 
 use crate::checks::{check_line, check_tables, check_vacant, root_of};
 use crate::header::Header;
@@ -59,7 +58,7 @@ fn grow_join<J: Joining>(
     nodes: &mut [Node],
     work: &mut [u32],
 ) -> Option<Branch>
-    ensures { In left (held (roots header.now.lines)) → In right (held (roots header.now.lines)) → Grows header.now.pins nodes.old work.old (roots header.now.lines) (join_trees (code_join J.Of.End.decoded J.Of.End.code J.Joining.joined) (tree (listed nodes.old) header.now.pins 0 left) (tree (listed nodes.old) header.now.pins 0 right)) nodes.new result }
+    ensures { In left (held header.now.lines) → In right (held header.now.lines) → Grows header.now.pins nodes.old work.old header.now.lines (join_trees (code_join J.Of.End.decoded J.Of.End.code J.Joining.joined) (tree (listed nodes.old) header.now.pins 0 left) (tree (listed nodes.old) header.now.pins 0 right)) nodes.new result }
 {
     let lines = header.lines;
     join_roots(joining, nodes, work, header.pins, &lines, left, right)

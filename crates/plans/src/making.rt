@@ -26,7 +26,7 @@ impl OpenPlan {
         let header = Header {
             order: padded(order),
             pins: pins as u8,
-            lines: [Line::Empty; 32],
+            lines: [None; 32],
             size,
             usage: Usage { used: 0 },
         };

@@ -32,7 +32,7 @@ impl Header {
         let Some(root) = root else {
             return Err(Ground::Parts.at(self.size));
         };
-        self.put(line, Line::Held(root), nodes, work);
+        self.put(line, Some(root), nodes, work);
         Ok(())
     }
 }

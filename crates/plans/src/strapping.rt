@@ -7,7 +7,6 @@ ghost use Rattle.model.specs.Orders.{place_in};
 ghost use Rattle.plans.specs.Holding.{Did, order_of};
 ghost use Rattle.plans.specs.Plain.{strap, input_refusal};
 ghost use Rattle.plans.specs.Results.{refusal};
-ghost use Rattle.tables.specs.Lines.{roots};
 
 use crate::checks::{check_line, check_tables, check_vacant, root_of};
 use crate::header::Header;
@@ -45,7 +44,7 @@ fn grow_strap(
     nodes: &mut [Node],
     work: &mut [u32],
 ) -> Option<Branch>
-    ensures { In root (held (roots header.now.lines)) → Grows header.now.pins nodes.old work.old (roots header.now.lines) (strap_tree (place_in (order_of header.now) pin) high (tree (listed nodes.old) header.now.pins 0 root)) nodes.new result }
+    ensures { In root (held header.now.lines) → Grows header.now.pins nodes.old work.old header.now.lines (strap_tree (place_in (order_of header.now) pin) high (tree (listed nodes.old) header.now.pins 0 root)) nodes.new result }
 {
     let lines = header.lines;
     let at = place_of_pin(header.order(), pin);

@@ -1,5 +1,5 @@
 -- What a held plain plan says of nodes, used number and counts.
-use Rattle.std.proofs.Common.{◌≡◌, ℕ, zero, suc, ◌+◌, ◌<◌, ◌≤◌, Bool, true, false, cond, List, [], ◌∷◌, length, get_or, set, Some, None, Ok, Err, Option, Result, sym, refl, ap, ◌∙◌, subst, inl, inr, arith, get_or-set_other, get_or-set_same}
+use Rattle.std.proofs.Common.{◌≡◌, ℕ, suc, ◌+◌, ◌<◌, ◌≤◌, Bool, true, false, cond, List, [], ◌∷◌, length, get_or, set, Some, None, Ok, Err, Option, Result, sym, refl, ap, ◌∙◌, subst, inl, inr, arith, get_or-set_other, get_or-set_same}
 use Rattle.std.proofs.lemmas.List.{get_or_past}
 use Rattle.std.proofs.lemmas.Bool.Decides.{eqb_tells, leb_tells}
 use Rattle.std.specs.Result.{result_ok}
@@ -13,9 +13,6 @@ use Rattle.model.specs.Selections.{Selection, view_of, views, Agrees}
 use Rattle.model.specs.Diagrams.{listed, meant, Means, From, Reaches, LeastRival}
 use Rattle.model.specs.Numberings.{numbering}
 use Rattle.model.proofs.Reach.{used_is_exact, numbering_reaches, own_nodes_least}
-use Rattle.tables.specs.declared.line.Line.{Line}
-use Rattle.tables.specs.declared.line.Line.TheVariants.{Empty, Held}
-use Rattle.tables.specs.Lines.{root, roots}
 use Rattle.plans.specs.declared.header.Header.{Header}
 use Rattle.plans.specs.Plain.{Plain, pins, line, count_line, count_told}
 use Rattle.plans.specs.Holding.{Holds, Counts, Uses}
@@ -36,15 +33,6 @@ lines_as_long R [] (y ∷ ys) l = absurd l
 lines_as_long R (x ∷ xs) [] l = absurd l
 lines_as_long R (x ∷ xs) (y ∷ ys) l = ap suc (lines_as_long R xs ys l.1)
 
-roots_at : (xs : List Line) (d : ℕ) → get_or (roots xs) d None ≡ root (get_or xs d Empty)
-roots_at [] d = refl
-roots_at (x ∷ xs) zero = refl
-roots_at (x ∷ xs) (suc d) = roots_at xs d
-
-roots_long : (xs : List Line) → length (roots xs) ≡ length xs
-roots_long [] = refl
-roots_long (x ∷ xs) = ap suc (roots_long xs)
-
 some_none : {B A : Type 0} (o : Option A) (x : A) → o ≡ Some x → o ≡ None → B
 some_none o x p q = let z : ◌≡◌ {A = ℕ} 0 1 = cc in absurd (omega arith)
 
@@ -56,11 +44,11 @@ told_once true m k e = cc
 told_once false m k e = let z : ◌≡◌ {A = ℕ} 0 1 = cc in absurd (omega arith)
 
 module _ (h : Header) (nodes : List Node) (p : Plain) (o : Holds h nodes p) where
-  pub parts_used : (u : ℕ) → Uses h u → UsedIsTheParts p nodes (roots h.lines) u
+  pub parts_used : (u : ℕ) → Uses h u → UsedIsTheParts p nodes h.lines u
   parts_used u e = record {
     reached = o.reachable;
     reaches = o.reached;
-    exact = used_is_exact (pins p) p.order (order_is h nodes p o) (listed nodes) (roots h.lines) p.lines o.lines o.reachable o.reached o.ordered o.reduced;
+    exact = used_is_exact (pins p) p.order (order_is h nodes p o) (listed nodes) h.lines p.lines o.lines o.reachable o.reached o.ordered o.reduced;
     told = e nodes p o;
   }
 
@@ -68,7 +56,7 @@ module _ (h : Header) (nodes : List Node) (p : Plain) (o : Holds h nodes p) wher
   line_within : (d : ℕ) (f : Selection) → line p d ≡ Some f → d < 32
   line_within d f e =
       elim (leb_tells 32 d) [
-        | inl t ↦ some_none (line p d) f e (get_or_past p.lines d None (let a = t.1 in let l = lines_as_long (Means (pins p) (listed nodes) p.order) (roots h.lines) p.lines o.lines in let m = roots_long h.lines in let k = h.lined in omega arith))
+        | inl t ↦ some_none (line p d) f e (get_or_past p.lines d None (let a = t.1 in let l = lines_as_long (Means (pins p) (listed nodes) p.order) h.lines p.lines o.lines in let k = h.lined in omega arith))
         | inr t ↦ (let a = t.1 in omega arith)
       ]
 
@@ -77,20 +65,20 @@ module _ (h : Header) (nodes : List Node) (p : Plain) (o : Holds h nodes p) wher
     inside = line_within d f e
 
     -- the root of the line, which means its selection
-    has_root : (l : Line) → get_or h.lines d Empty ≡ l → (b : Branch) × (get_or h.lines d Empty ≡ Held b) × Agrees (pins p) (meant (pins p) (listed nodes) p.order b) f
-    has_root Empty q = some_none (line p d) f e (empty_line h nodes p o d inside q)
-    has_root (Held b) q =
+    has_root : (l : Option Branch) → get_or h.lines d None ≡ l → (b : Branch) × (get_or h.lines d None ≡ Some b) × Agrees (pins p) (meant (pins p) (listed nodes) p.order b) f
+    has_root None q = some_none (line p d) f e (empty_line h nodes p o d inside q)
+    has_root (Some b) q =
         let r = held_line h nodes p o d inside b q in
         (b, q, subst (λ (g : Selection). Agrees (pins p) (meant (pins p) (listed nodes) p.order b) g) (some_same (line p d) r.0 f r.1 e) r.2)
 
     count_is : count_line p d ≡ count (pins p) (view_of (pins p) p.order f)
     count_is = ap (λ (l : Option Selection). used (pins p) (held (views (pins p) p.order (l ∷ [])))) e
 
-    pub line_least : (work : ℕ) (told : Option ℕ) → told ≡ count_if_told p d (length nodes) work → CountIsLeast p nodes (get_or (roots h.lines) d None) f told
+    pub line_least : (work : ℕ) (told : Option ℕ) → told ≡ count_if_told p d (length nodes) work → CountIsLeast p nodes (get_or h.lines d None) f told
     line_least work told is =
         record {
           root = b;
-          entered = roots_at h.lines d ∙ ap root r.1;
+          entered = r.1;
           own = own;
           reaches = reach;
           diagram = least;
@@ -98,8 +86,8 @@ module _ (h : Header) (nodes : List Node) (p : Plain) (o : Holds h nodes p) wher
           least = λ k t T us e x. subst (λ (m : ℕ). m ≤ length us) (exact k t) (least.least T us e x);
         }
       where
-        r : (b : Branch) × (get_or h.lines d Empty ≡ Held b) × Agrees (pins p) (meant (pins p) (listed nodes) p.order b) f
-        r = has_root (get_or h.lines d Empty) refl
+        r : (b : Branch) × (get_or h.lines d None ≡ Some b) × Agrees (pins p) (meant (pins p) (listed nodes) p.order b) f
+        r = has_root (get_or h.lines d None) refl
 
         b : Branch
         b = r.0

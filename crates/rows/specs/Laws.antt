@@ -7,7 +7,6 @@ use Rattle.model.specs.declared.Node.{Node}
 use Rattle.model.specs.Lists.{held, LineForLine}
 use Rattle.model.specs.Selections.{Selection, Alike}
 use Rattle.model.specs.Diagrams.{Table, listed, Reaches, Rival, LeastRival}
-use Rattle.tables.specs.Lines.{roots}
 use Rattle.plans.specs.Plain.{Plain, Call, pins, line, used_of, count_line, empty_plan, make_told, count_told}
 use Rattle.plans.specs.Holding.{Holds, ToldValue}
 use Rattle.plans.specs.Listing.{listing_of, list_told}
@@ -49,9 +48,9 @@ pub record CountIsLeast (p : Plain) (nodes : List Node) (line : Option Branch) (
 -- What stands after a row: the plan holds the plain plan, and the laws of the used number and of every line's count.
 pub record Priced (p : Plain) (nodes : List Node) (work : ℕ) (o : Outcome) : Type 0 where
   pub holds : Holds o.plan.header nodes p
-  pub used : UsedIsTheParts p nodes (roots o.plan.header.lines) o.used
+  pub used : UsedIsTheParts p nodes o.plan.header.lines o.used
   pub counts : (d : ℕ) → d < 32 → slice_index_or o.counts d None ≡ count_if_told p d (length nodes) work
-  pub least : (d : ℕ) (f : Selection) → line p d ≡ Some f → CountIsLeast p nodes (slice_index_or (roots o.plan.header.lines) d None) f (slice_index_or o.counts d None)
+  pub least : (d : ℕ) (f : Selection) → line p d ≡ Some f → CountIsLeast p nodes (slice_index_or o.plan.header.lines d None) f (slice_index_or o.counts d None)
 
 -- the first ground on which a row's listing is refused: the making of the plan, and then the listing
 abbrev pub listing_told : List ℕ → Lent → Plain → ℕ → Option Fault

@@ -1,5 +1,5 @@
 -- Marking what is reached.
-use Rattle.std.proofs.Common.{◌≡◌, ℕ, zero, suc, ◌+◌, ◌<◌, ◌≤◌, Bool, true, false, ◌⊎◌, List, [], ◌∷◌, ◌++◌, length, get_or, take, set, sym, refl, ap, ◌∙◌, subst, inl, inr, add-one, arith, get_or-set_other, get_or-set_same}
+use Rattle.std.proofs.Common.{None, Some, Option, ◌≡◌, ℕ, zero, suc, ◌+◌, ◌<◌, ◌≤◌, Bool, true, false, ◌⊎◌, List, [], ◌∷◌, ◌++◌, length, get_or, take, set, sym, refl, ap, ◌∙◌, subst, inl, inr, add-one, arith, get_or-set_other, get_or-set_same}
 use Rattle.std.proofs.lemmas.Bool.{cases_lt, cases_eq}
 use Rattle.std.proofs.lemmas.List.{get_or_past, append-nil, take_more, take_all}
 use Rattle.model.specs.declared.Branch.{Branch}
@@ -9,9 +9,6 @@ use Rattle.model.specs.Lists.{In, held}
 use Rattle.model.specs.Diagrams.{Table, blank, listed, side, follow, From, Reduced, Reached}
 use Rattle.model.proofs.Lists.{in-++, in-++-left, in-++-right}
 use Rattle.model.proofs.Reach.{follow_in}
-use Rattle.tables.specs.declared.line.Line.{Line}
-use Rattle.tables.specs.declared.line.Line.TheVariants.{Empty, Held}
-use Rattle.tables.specs.Lines.{root, roots}
 use Rattle.tables.specs.States.{Live}
 use Rattle.tables.specs.Markings.{Marked, Marking, Diagram, Marks, MarkedFrom}
 
@@ -133,33 +130,33 @@ more_so_far T rs marks marks' b g h =
       ];
     }
 
-held_push : (ls : List Line) (l : Line) → held (roots (ls ++ (l ∷ []))) ≡ held (roots ls) ++ held (root l ∷ [])
+held_push : (ls : List (Option Branch)) (l : Option Branch) → held ((ls ++ (l ∷ []))) ≡ held ls ++ held (l ∷ [])
 held_push [] l = refl
-held_push (Empty ∷ ls) l = held_push ls l
-held_push (Held b ∷ ls) l = ap (λ z. b ∷ z) (held_push ls l)
+held_push (None ∷ ls) l = held_push ls l
+held_push (Some b ∷ ls) l = ap (λ z. b ∷ z) (held_push ls l)
 
-taken_more : (ls : List Line) (c : ℕ) (l : Line) → c < length ls → get_or ls c Empty ≡ l → held (roots (take (c + 1) ls)) ≡ held (roots (take c ls)) ++ held (root l ∷ [])
-taken_more ls c l lt e = ap (λ z. held (roots z)) (take_more ls c Empty lt ∙ ap (λ z. take c ls ++ (z ∷ [])) e) ∙ held_push (take c ls) l
+taken_more : (ls : List (Option Branch)) (c : ℕ) (l : Option Branch) → c < length ls → get_or ls c None ≡ l → held (take (c + 1) ls) ≡ held (take c ls) ++ held (l ∷ [])
+taken_more ls c l lt e = ap (λ z. held z) (take_more ls c None lt ∙ ap (λ z. take c ls ++ (z ∷ [])) e) ∙ held_push (take c ls) l
 
-pub line_empty : (T : Table) (ls : List Line) (c : ℕ) (marks : List ℕ) → c < length ls → get_or ls c Empty ≡ Empty
-    → SoFar T (held (roots (take c ls))) marks → SoFar T (held (roots (take (c + 1) ls))) marks
-line_empty T ls c marks lt e h = subst (λ z. SoFar T z marks) (sym (taken_more ls c Empty lt e ∙ append-nil (held (roots (take c ls))))) h
+pub line_empty : (T : Table) (ls : List (Option Branch)) (c : ℕ) (marks : List ℕ) → c < length ls → get_or ls c None ≡ None
+    → SoFar T (held (take c ls)) marks → SoFar T (held (take (c + 1) ls)) marks
+line_empty T ls c marks lt e h = subst (λ z. SoFar T z marks) (sym (taken_more ls c None lt e ∙ append-nil (held (take c ls)))) h
 
-pub line_held : (T : Table) (ls : List Line) (c : ℕ) (marks marks' : List ℕ) (b : Branch) → c < length ls → get_or ls c Empty ≡ Held b → Marking T marks b marks'
-    → SoFar T (held (roots (take c ls))) marks → SoFar T (held (roots (take (c + 1) ls))) marks'
-line_held T ls c marks marks' b lt e g h = subst (λ z. SoFar T z marks') (sym (taken_more ls c (Held b) lt e)) (more_so_far T (held (roots (take c ls))) marks marks' b g h)
+pub line_held : (T : Table) (ls : List (Option Branch)) (c : ℕ) (marks marks' : List ℕ) (b : Branch) → c < length ls → get_or ls c None ≡ Some b → Marking T marks b marks'
+    → SoFar T (held (take c ls)) marks → SoFar T (held (take (c + 1) ls)) marks'
+line_held T ls c marks marks' b lt e g h = subst (λ z. SoFar T z marks') (sym (taken_more ls c (Some b) lt e)) (more_so_far T (held (take c ls)) marks marks' b g h)
 
 -- the root of a held line is one of the roots
-pub root_held : (ls : List Line) (c : ℕ) (b : Branch) → c < length ls → get_or ls c Empty ≡ Held b → In b (held (roots ls))
+pub root_held : (ls : List (Option Branch)) (c : ℕ) (b : Branch) → c < length ls → get_or ls c None ≡ Some b → In b (held ls)
 root_held [] c b lt e = absurd (omega arith)
 root_held (l ∷ ls) c b lt e = go l c lt e (root_held ls)
   where
-    go : (l : Line) (c : ℕ) → c < length (l ∷ ls) → get_or (l ∷ ls) c Empty ≡ Held b → ((c : ℕ) (b : Branch) → c < length ls → get_or ls c Empty ≡ Held b → In b (held (roots ls)))
-        → In b (held (roots (l ∷ ls)))
-    go Empty zero lt e ih = absurd (let z : ◌≡◌ {A = ℕ} 0 1 = cc in omega arith)
-    go Empty (suc c) lt e ih = ih c b (omega arith) e
-    go (Held r) zero lt e ih = let q : b ≡ r = cc in inl q
-    go (Held r) (suc c) lt e ih = inr (ih c b (omega arith) e)
+    go : (l : Option Branch) (c : ℕ) → c < length (l ∷ ls) → get_or (l ∷ ls) c None ≡ Some b → ((c : ℕ) (b : Branch) → c < length ls → get_or ls c None ≡ Some b → In b (held ls))
+        → In b (held ((l ∷ ls)))
+    go None zero lt e ih = absurd (let z : ◌≡◌ {A = ℕ} 0 1 = cc in omega arith)
+    go None (suc c) lt e ih = ih c b (omega arith) e
+    go (Some r) zero lt e ih = let q : b ≡ r = cc in inl q
+    go (Some r) (suc c) lt e ih = inr (ih c b (omega arith) e)
 
 follow_marked : (T : Table) (marks : List ℕ) → ((i : ℕ) → Live marks i → (v : Bool) → Marked marks (side v (T i))) → (vs : List Bool) (b : Branch) (i : ℕ) → Marked marks b → follow T vs b ≡ node i → Live marks i
 follow_marked T marks cl [] b i m e = subst (Marked marks) e m
@@ -185,10 +182,10 @@ marked_from n nodes us rs marks dg f h =
     rise d (end c) g m = tt
     rise d (node k) g m = (m, g.1)
 
-pub lines_done : (n : ℕ) (nodes : List Node) (us : List ℕ) (ls : List Line) (c : ℕ) (marks : List ℕ) → length ls ≤ c → Diagram n nodes us
-    → ((b : Branch) → In b (held (roots ls)) → From (λ i. In i us) (listed nodes) 0 b)
-    → SoFar (listed nodes) (held (roots (take c ls))) marks → MarkedFrom n nodes (held (roots ls)) marks
-lines_done n nodes us ls c marks l dg f h = marked_from n nodes us (held (roots ls)) marks dg f (subst (λ z. SoFar (listed nodes) (held (roots z)) marks) (take_all c ls l) h)
+pub lines_done : (n : ℕ) (nodes : List Node) (us : List ℕ) (ls : List (Option Branch)) (c : ℕ) (marks : List ℕ) → length ls ≤ c → Diagram n nodes us
+    → ((b : Branch) → In b (held ls) → From (λ i. In i us) (listed nodes) 0 b)
+    → SoFar (listed nodes) (held (take c ls)) marks → MarkedFrom n nodes (held ls) marks
+lines_done n nodes us ls c marks l dg f h = marked_from n nodes us (held ls) marks dg f (subst (λ z. SoFar (listed nodes) (held z) marks) (take_all c ls l) h)
 
 -- the roots lead to marked nodes
 pub roots_marked : (n : ℕ) (nodes : List Node) (rs : List Branch) (marks : List ℕ) → MarkedFrom n nodes rs marks → (b : Branch) → In b rs → From (Live marks) (listed nodes) 0 b

@@ -1,7 +1,6 @@
 pub mod Indexes
 pub mod States
 pub mod Reads
-pub mod Lines
 pub mod Markings
 pub mod Probes
 pub mod Additions

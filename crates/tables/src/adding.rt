@@ -1,6 +1,5 @@
 ghost use Rattle.std.specs.Prelude.{◌≡◌, ◌+◌, ◌<◌, ◌≤◌, length, slice_set};
 ghost use Rattle.tables.specs.Additions.{Adds, Prepares};
-ghost use Rattle.tables.specs.Lines.{roots};
 
 use crate::indexing::{Found, MOST_NODES, free_slot, index_marked, probe};
 use crate::line::Line;
@@ -15,7 +14,7 @@ pub fn prepare<'a>(
     pins: u8,
     lines: &[Line],
 ) -> (&'a mut [u32], &'a mut [u32])
-    ensures { Prepares pins nodes.now work.old (roots lines.now) result.0.now result.1.now }
+    ensures { Prepares pins nodes.now work.old lines.now result.0.now result.1.now }
 {
     let len = nodes.len();
     let room = work.len();

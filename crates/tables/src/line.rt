@@ -1,8 +1,4 @@
 use model::Branch;
 
 // A line is empty, or holds the root of a diagram.
-#[derive(Clone, Copy, PartialEq, Eq, Drop, Debug)]
-pub enum Line {
-    Empty,
-    Held(Branch),
-}
+pub type Line = Option<Branch>;

@@ -1,6 +1,5 @@
 ghost use Rattle.std.specs.Prelude.{◌≡◌, ℕ, ◌<◌, ◌≤◌, List, length, slice_index};
 ghost use Rattle.tables.specs.Indexes.{filled};
-ghost use Rattle.tables.specs.Lines.{roots};
 ghost use Rattle.tables.specs.Markings.{Marks, MarksRoots, Counts};
 
 use crate::line::Line;
@@ -41,13 +40,12 @@ fn mark_from(nodes: &[Node], marks: &mut [u32], pins: u8, place: u8, branch: Bra
 
 // Marks exactly the nodes that are reached from the held lines.
 pub fn mark_roots(nodes: &[Node], marks: &mut [u32], pins: u8, lines: &[Line])
-    ensures { MarksRoots pins nodes.now (roots lines.now) marks.new }
+    ensures { MarksRoots pins nodes.now lines.now marks.new }
 {
     clear(marks);
     for line in lines {
-        match *line {
-            Line::Empty => {}
-            Line::Held(root) => mark_from(nodes, marks, pins, 0, root),
+        if let Some(root) = *line {
+            mark_from(nodes, marks, pins, 0, root);
         }
     }
 }

@@ -1,5 +1,4 @@
 use Rattle.std.proofs.Common.{◌≡◌, ℕ, length, take, sym, ◌∙◌, subst, arith}
-use Rattle.tables.specs.Lines.{roots}
 use Rattle.listings.specs.Numbers.{NumbersFrom}
 use Rattle.listings.proofs.Numbering.{numbers_lines, numbered_nodes}
 use Rattle.listings.proofs.numbers.number_nodes.Goals as goal
@@ -14,7 +13,7 @@ pub returns : goal.returns
 returns c =
     let nodes = c.args.nodes.now in
     let n = c.args.pins in
-    let lines = roots c.args.lines.now in
+    let lines = c.args.lines.now in
     let few₀ = c.if-len-gt-MOST_NODES.false in
     let l₀ : length c.split_at_mut-order.result.0.now ≡ length nodes = c.split_at_mut-order.ensures.front_len in
     let l₁ : length c.split_at_mut-numbers.result.0.now ≡ length nodes = c.split_at_mut-numbers.ensures.front_len in

@@ -1,5 +1,4 @@
 use Rattle.std.proofs.Common.{◌≡◌, length, ap, ◌∙◌, arith}
-use Rattle.tables.specs.Lines.{root}
 use Rattle.listings.proofs.Written.{writes_nothing, lines_at, line_put, lines_put, line_length}
 use Rattle.listings.proofs.writing.put_lines.Goals as goal
 
@@ -9,7 +8,7 @@ loop-line-init c = writes_nothing c.args.room.now c.args.at
 pub put-at-requires : goal.put-at-requires
 put-at-requires c =
     let e = lines_at c.args.numbers.now c.args.lines.now c.loop-line.line-index c.args.room.now c.args.at c.loop-line.room c.loop-line.at c.loop-line.invariant (omega arith) in
-    let l : length c.line_bytes.result ≡ 3 = ap length c.line_bytes.ensures ∙ line_length (root c.relabel_line.result) in
+    let l : length c.line_bytes.result ≡ 3 = ap length c.line_bytes.ensures ∙ line_length c.relabel_line.result in
     let same = c.loop-line.auto.room in
     let pre = c.requires in
     omega (arith, e, l, same, pre)
