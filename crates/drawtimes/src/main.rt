@@ -8,7 +8,7 @@ use readers::bit_file::BitFile;
 use std::alloc::{AllocError, Global};
 use std::time::Instant;
 use std::{env, io};
-use trees::tree::{Half, Record};
+use trees::tree::Record;
 
 const NODES: usize = 4096;
 
@@ -40,15 +40,6 @@ fn order_of(heap: Global, pins: u8, reversed: bool) -> Result<Vec<u8>, AllocErro
     Ok(order)
 }
 
-fn blank_record() -> Record {
-    Record {
-        level: 0,
-        block: 0,
-        low: Half::Code(0),
-        high: Half::Code(0),
-    }
-}
-
 fn work_for(heap: Global, pins: u8) -> Result<Vec<u32>, AllocError> {
     vec![in heap; 0; 4 * (pins as usize + 1) * (NODES + 2)]
 }
@@ -61,7 +52,7 @@ fn time_draw(
     nodes: &mut [Node],
     work: &mut [u32],
 ) -> io::Result<(u128, Result<(), Fault>)> {
-    let mut records = vec![in rt.alloc(); blank_record(); RECORDS]?;
+    let mut records = vec![in rt.alloc(); Record::blank(); RECORDS]?;
     let start = Instant::now(rt)?;
     let told = plan.draw(file, 0, nodes, &mut records, work);
     let time = start.elapsed(rt)?;

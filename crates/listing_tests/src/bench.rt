@@ -11,14 +11,7 @@ use readers::setting_file::SettingFile;
 use std::alloc::{AllocError, Global};
 use std::process::Abort;
 use std::test::Fail;
-use trees::tree::{Half, Record};
-
-const BLANK_RECORD: Record = Record {
-    level: 0,
-    block: 0,
-    low: Half::Code(0),
-    high: Half::Code(0),
-};
+use trees::tree::Record;
 
 // What stands in a buffer before a listing.
 pub const BEFORE: u8 = 0xA5;
@@ -35,7 +28,7 @@ impl Tables {
     pub fn new(heap: Global) -> Result<Tables, AllocError> {
         Ok(Tables {
             nodes: vec![in heap; Node::blank(); 16]?,
-            records: vec![in heap; BLANK_RECORD; 15]?,
+            records: vec![in heap; Record::blank(); 15]?,
             work: vec![in heap; 7; 360]?,
         })
     }

@@ -8,14 +8,7 @@ use plans::open::OpenPlan;
 use std::alloc::{AllocError, Global};
 use std::process::Abort;
 use std::test::Fail;
-use trees::tree::{Half, Record};
-
-const BLANK_RECORD: Record = Record {
-    level: 0,
-    block: 0,
-    low: Half::Code(0),
-    high: Half::Code(0),
-};
+use trees::tree::Record;
 
 // What is told where nothing is refused.
 pub const DONE: &'static str = "DONE";
@@ -120,7 +113,7 @@ impl<'a> Bench<'a> {
             plan,
             order,
             nodes: vec![in heap; Node::blank(); lent.nodes + 1]?,
-            records: vec![in heap; BLANK_RECORD; lent.records + 1]?,
+            records: vec![in heap; Record::blank(); lent.records + 1]?,
             work: vec![in heap; 0; lent.work + 1]?,
             lent,
             lines: [None; 8],

@@ -8,18 +8,11 @@ use model::Node;
 use plans::open::OpenPlan;
 use readers::bit_file::BitFile;
 use sources::source::Source;
-use trees::tree::{Half, Record};
+use trees::tree::Record;
 
 const ADDRESS_ORDER: [u8; 20] = [
     0, 1, 2, 3, 4, 5, 6, 7, 8, 9, 10, 11, 12, 13, 14, 15, 16, 17, 18, 19,
 ];
-
-const BLANK_RECORD: Record = Record {
-    level: 0,
-    block: 0,
-    low: Half::Code(0),
-    high: Half::Code(0),
-};
 
 // The first pins, each in its place.
 fn address_order(pins: usize) -> &'static [u8]
@@ -36,7 +29,7 @@ fn quote_map(map: &BitFile) -> Result<u16, Fault>
     ensures { Drawn map.now.bytes.now result }
 {
     let mut nodes = [Node::blank(); 128];
-    let mut records = [BLANK_RECORD; 512];
+    let mut records = [Record::blank(); 512];
     let mut work = [0; 6760];
     let mut plan = OpenPlan::new(address_order(map.pins() as usize), &nodes)?;
     plan.draw(map, 0, &mut nodes, &mut records, &mut work)?;

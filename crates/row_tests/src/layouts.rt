@@ -1,7 +1,7 @@
 // Listings after rows: what is written, what is refused, and when two are the same.
 use crate::dawn::Dawn;
 use crate::lamp::Brighter;
-use crate::samples::{BLANK_RECORD, SWITCHES_1_3, draw, erase, join};
+use crate::samples::{SWITCHES_1_3, draw, erase, join};
 use ends::joining::Differ;
 use faults::fault::{Fault, Ground};
 use model::Node;
@@ -9,6 +9,7 @@ use readers::bit_file::BitFile;
 use rows::listing::{list_row, lists_alike};
 use rows::row::Row;
 use std::test::Fail;
+use trees::tree::Record;
 
 // Two rows on plans of two pins, the second with more nodes than the first.
 fn alike<A: Row, B: Row>(one: &A, two: &B) -> Result<bool, Fault> {
@@ -17,11 +18,11 @@ fn alike<A: Row, B: Row>(one: &A, two: &B) -> Result<bool, Fault> {
         two,
         &[1, 0],
         &mut [Node::blank(); 8],
-        &mut [BLANK_RECORD; 4],
+        &mut [Record::blank(); 4],
         &mut [0; 120],
         &mut [0; 160],
         &mut [Node::blank(); 16],
-        &mut [BLANK_RECORD; 8],
+        &mut [Record::blank(); 8],
         &mut [0; 216],
         &mut [0xAA; 180],
     )
@@ -33,7 +34,7 @@ fn list_dawn(buffer: &mut [u8]) -> Result<usize, Fault> {
         &draw(Dawn, 1),
         &[0, 1],
         &mut [Node::blank(); 8],
-        &mut [BLANK_RECORD; 4],
+        &mut [Record::blank(); 4],
         &mut [0; 120],
         buffer,
     )

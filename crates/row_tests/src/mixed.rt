@@ -1,7 +1,7 @@
 // Rows of mixed calls, some of them refused, on a plan of two pins and eight nodes.
 use crate::dawn::Dawn;
 use crate::lamp::Brighter;
-use crate::samples::{BLANK_RECORD, SWITCHES_1_3, draw, erase, join};
+use crate::samples::{SWITCHES_1_3, draw, erase, join};
 use ends::joining::{Both, Differ};
 use faults::fault::{Fault, Ground};
 use model::Node;
@@ -11,6 +11,7 @@ use rows::calls::{Draw, Erase, Join, Strap};
 use rows::hand::Hand;
 use rows::row::{Row, Then};
 use std::test::Fail;
+use trees::tree::Record;
 
 // Two lines that are drawn, one of them twice, then two joins, then a strap.
 type FourLines<'a> = Then<
@@ -28,7 +29,7 @@ struct Told {
 // A row on a new plan with eight nodes, four tree records and the work for two pins.
 fn told_after<R: Row>(row: &R, order: &[u8]) -> Result<Told, Fault> {
     let mut nodes = [Node::blank(); 8];
-    let mut records = [BLANK_RECORD; 4];
+    let mut records = [Record::blank(); 4];
     let mut work = [0; 120];
     let outcome = after_row(row, order, &mut nodes, &mut records, &mut work)?;
     let [a, b, c, d, e, ..] = outcome.counts;

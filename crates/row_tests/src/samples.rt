@@ -1,19 +1,11 @@
-// Maps, tables and calls for the tests.
+// Maps and calls for the tests.
 use ends::joining::Joining;
 use rows::calls::{Draw, Erase, Join};
 use rows::hand::Hand;
 use sources::source::Source;
-use trees::tree::{Half, Record};
 
 // A map of two pins with first end 0 and switches 1 3: the ends 0 1 1 0.
 pub const SWITCHES_1_3: [u8; 16] = [0x53, 0x57, 0x4C, 0, 1, 0, 2, 0, 0, 2, 0, 0, 1, 0, 0, 3];
-
-pub const BLANK_RECORD: Record = Record {
-    level: 0,
-    block: 0,
-    low: Half::Code(0),
-    high: Half::Code(0),
-};
 
 pub fn draw<S: Source>(source: S, line: u8) -> Draw<S> {
     Draw {

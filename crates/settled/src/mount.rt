@@ -6,7 +6,7 @@ ghost use Rattle.trees.specs.Mixed.{codes};
 ghost use Rattle.settled.specs.Examples.{MountSettles};
 ghost use Rattle.settled.specs.Readings.{ReadsFour};
 
-use crate::samples::{BLANK_RECORD, SINGLE};
+use crate::samples::SINGLE;
 use ends::end::End;
 use faults::fault::Fault;
 use files::accept::accept;
@@ -16,13 +16,14 @@ use plans::open::OpenPlan;
 use readers::bit_file::BitFile;
 use sources::mounted::Mounted;
 use sources::source::Source;
+use trees::tree::Record;
 
 // The codes of a source of two pins, drawn on a new plan and read at each address.
 fn read_four<S: Source>(source: &S) -> Result<[Result<u16, Fault>; 4], Fault>
     ensures { ReadsFour (S.Source.width source.now) (codes S.Of.End.code (S.Source.selection source.now)) result }
 {
     let mut nodes = [Node::blank(); 3];
-    let mut records = [BLANK_RECORD; 3];
+    let mut records = [Record::blank(); 3];
     let mut work = [0; 60];
     let mut plan = OpenPlan::new(&[0, 1], &nodes)?;
     plan.draw(source, 0, &mut nodes, &mut records, &mut work)?;

@@ -8,7 +8,6 @@ ghost use Rattle.trees.specs.Mixed.{codes};
 ghost use Rattle.settled.specs.Reckonings.{Reckons};
 
 use crate::outcomes::Reckoning;
-use crate::samples::BLANK_RECORD;
 use ends::end::End;
 use faults::fault::Fault;
 use files::accept::accept;
@@ -19,13 +18,14 @@ use readers::bit_file::BitFile;
 use readers::setting_file::SettingFile;
 use sources::source::Source;
 use trees::build::build;
+use trees::tree::Record;
 
 // The tree records of a map, and the nodes of its line on a new plan in this order.
 fn reckon<S: Source>(source: &S, order: &[u8]) -> Result<Reckoning, Fault>
     ensures { Reckons (S.Source.width source.now) (codes S.Of.End.code (S.Source.selection source.now)) order.now result }
 {
     let mut nodes = [Node::blank(); 8];
-    let mut records = [BLANK_RECORD; 8];
+    let mut records = [Record::blank(); 8];
     let mut work = [0; 200];
     let tree = build(source, &mut records)?;
     let mut plan = OpenPlan::new(order, &nodes)?;

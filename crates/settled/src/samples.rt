@@ -1,5 +1,4 @@
-// Map files of the examples, and tables to begin with. The files of bits have first end 0.
-use trees::tree::{Half, Record};
+// Map files of the examples. The files of bits have first end 0.
 
 // One pin, no switch.
 pub(crate) const CONSTANT: &'static [u8] = b"SWL\x00\x01\x00\x01\x00\x00\x00";
@@ -24,10 +23,3 @@ pub(crate) const FOUR_PINS: &'static [u8] = b"SWL\x00\x01\x00\x04\x00\x00\x01\x0
 // Two pins, chip settings: first code 8, switch 1 to 16, switch 2 to 8.
 pub(crate) const CHIP_SETTINGS: &'static [u8] =
     b"SWL\x00\x01\x01\x02\x08\x00\x02\x00\x00\x01\x10\x00\x00\x02\x08";
-
-pub(crate) const BLANK_RECORD: Record = Record {
-    level: 0,
-    block: 0,
-    low: Half::Code(0),
-    high: Half::Code(0),
-};

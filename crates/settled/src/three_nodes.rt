@@ -8,7 +8,7 @@ use faults::fault::Fault;
 use model::Node;
 use plans::open::OpenPlan;
 use readers::bit_file::BitFile;
-use trees::tree::{Half, Record};
+use trees::tree::Record;
 
 // Maps of two pins with first end 0 and these switches.
 const SWITCHES_1_3: [u8; 16] = [0x53, 0x57, 0x4C, 0, 1, 0, 2, 0, 0, 2, 0, 0, 1, 0, 0, 3];
@@ -18,13 +18,6 @@ const SWITCHES_1_2_3: [u8; 19] = [
 ];
 
 const SWITCH_2: [u8; 13] = [0x53, 0x57, 0x4C, 0, 1, 0, 2, 0, 0, 1, 0, 0, 2];
-
-const BLANK_RECORD: Record = Record {
-    level: 0,
-    block: 0,
-    low: Half::Code(0),
-    high: Half::Code(0),
-};
 
 fn draw_file(
     plan: &mut OpenPlan,
@@ -46,7 +39,7 @@ pub fn three_nodes_settle() -> Result<Outcome, Fault>
     ensures { Settles result }
 {
     let mut nodes = [Node::blank(); 3];
-    let mut records = [BLANK_RECORD; 3];
+    let mut records = [Record::blank(); 3];
     let mut work = [0; 60];
     let mut plan = OpenPlan::new(&[0, 1], &nodes)?;
     draw_file(

@@ -9,6 +9,10 @@ use Rattle.trees.specs.declared.tree.Record.{Record}
 use Rattle.trees.specs.declared.tree.Tree.{Tree}
 use Rattle.trees.specs.Mixed.{Block, mixed, mixed_blocks}
 
+-- the record of all zeros
+abbrev pub blank : Record
+blank = record { level = 0; block = 0; low = Code 0; high = Code 0 }
+
 abbrev pub same_block : Block → Block → Bool
 same_block a b = a.0 == b.0 && a.1 == b.1
 

@@ -1,3 +1,6 @@
+ghost use Rattle.std.specs.Prelude.{◌≡◌};
+ghost use Rattle.trees.specs.Records.{blank};
+
 // What stands for a block: its code where all its addresses have one, or the index of its record where it is mixed.
 #[derive(Clone, Copy)]
 pub enum Half {
@@ -12,6 +15,20 @@ pub struct Record {
     pub block: u32,
     pub low: Half,
     pub high: Half,
+}
+
+impl Record {
+    // The record of all zeros, for a table before its first build.
+    pub fn blank() -> Record
+        ensures { result ≡ blank }
+    {
+        Record {
+            level: 0,
+            block: 0,
+            low: Half::Code(0),
+            high: Half::Code(0),
+        }
+    }
 }
 
 // A tree of `len` records at the start of a table, with what stands for block 0 of level 0.
