@@ -2,6 +2,7 @@ ghost use Rattle.std.proofs.Common.{lit≤};
 ghost use Rattle.row_tests.specs.Lamps.{dawn};
 
 use crate::lamp::Lamp;
+use sources::block::Block;
 use sources::source::{Answer, Source};
 
 // Two pins: off, off, dim, bright.
@@ -23,8 +24,8 @@ impl Source for Dawn {
         2
     }
 
-    fn ask(&self, level: u32, block: u32) -> Answer<Lamp> {
-        match (level, block) {
+    fn ask(&self, block: Block) -> Answer<Lamp> {
+        match (block.level, block.number) {
             (0, 0) => Answer::Mixed,
             (1, 0) => Answer::All(Lamp::Off),
             (1, 1) => Answer::Mixed,

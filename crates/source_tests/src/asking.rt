@@ -3,58 +3,44 @@ ghost use Rattle.std.specs.Prelude.{◌≤◌};
 
 use crate::tables::code_at;
 use ends::end::End;
+use sources::block::Block;
 use sources::source::{Answer, Source};
 use std::process::Abort;
 
-// An answer, with the code in place of the end.
-#[derive(Clone, Copy, PartialEq, Eq, Debug)]
-pub enum Told {
-    All(u16),
-    Mixed,
-    Outside,
-}
-
-impl Told {
-    // What is true of these addresses and one more.
-    fn with(self, code: u16) -> Told {
-        match self {
-            Told::All(held) => { if held == code { self } else { Told::Mixed } }
-            Told::Mixed => Told::Mixed,
-            Told::Outside => Told::All(code),
-        }
-    }
-}
-
-// A block, and what is told of it.
+// A block, and what is told of it in codes.
 #[derive(Clone, Copy, PartialEq, Eq, Debug)]
 pub struct Asked {
-    pub level: u32,
-    pub block: u32,
-    pub told: Told,
+    pub block: Block,
+    pub told: Answer<u16>,
 }
 
-pub fn told_by<S: Source>(source: &S, level: u32, block: u32) -> Asked {
-    let told = match source.ask(level, block) {
-        Answer::All(end) => Told::All(end.encode()),
-        Answer::Mixed => Told::Mixed,
-        Answer::Outside => Told::Outside,
-    };
-    Asked { level, block, told }
+pub fn told_by<S: Source>(source: &S, block: Block) -> Asked {
+    let told = source.ask(block).map(|end| end.encode());
+    Asked { block, told }
+}
+
+// What is true of the addresses of an answer and one more.
+fn and_one_more(told: Answer<u16>, code: u16) -> Answer<u16> {
+    match told {
+        Answer::All(held) if held != code => Answer::Mixed,
+        Answer::Outside => Answer::All(code),
+        _ => told,
+    }
 }
 
 // The truth of a block, found by looking at every address: those of the block have it as their top bits.
-fn true_of(codes: &[u16], pins: u32, level: u32, block: u32) -> Asked
+fn true_of(codes: &[u16], pins: u32, block: Block) -> Asked
     requires { pins ≤ 20 }
 {
-    let mut told = Told::Outside;
-    if level <= pins {
+    let mut told = Answer::Outside;
+    if block.level <= pins {
         for address in 0..1u32 << pins {
-            if address >> (pins - level) == block {
-                told = told.with(code_at(codes, address as usize));
+            if address >> (pins - block.level) == block.number {
+                told = and_one_more(told, code_at(codes, address as usize));
             }
         }
     }
-    Asked { level, block, told }
+    Asked { block, told }
 }
 
 // Blocks that no source has.
@@ -82,9 +68,10 @@ const NOWHERE: [(u32, u32); 20] = [
 ];
 
 pub fn check_nowhere<S: Source>(rt: &impl Abort, source: &S) {
-    for (level, block) in NOWHERE {
-        let told = Told::Outside;
-        assert_eq!(rt; told_by(source, level, block), Asked { level, block, told });
+    for (level, number) in NOWHERE {
+        let block = Block { level, number };
+        let told = Answer::Outside;
+        assert_eq!(rt; told_by(source, block), Asked { block, told });
     }
 }
 
@@ -92,11 +79,9 @@ pub fn check_nowhere<S: Source>(rt: &impl Abort, source: &S) {
 fn check_level<S: Source>(rt: &impl Abort, source: &S, codes: &[u16], pins: u32, level: u32)
     requires { (pins ≤ 20) × (level ≤ 21) }
 {
-    for block in 0..(1u32 << level) + 2 {
-        assert_eq!(rt;
-            told_by(source, level, block),
-            true_of(codes, pins, level, block)
-        );
+    for number in 0..(1u32 << level) + 2 {
+        let block = Block { level, number };
+        assert_eq!(rt; told_by(source, block), true_of(codes, pins, block));
     }
 }
 

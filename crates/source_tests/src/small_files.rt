@@ -1,5 +1,5 @@
 // Every address and every block of small map files.
-use crate::asking::{Told, check_source, told_by};
+use crate::asking::{check_source, told_by};
 use crate::samples::{ALL_BITS, ALL_SETTINGS, bits, ranges, settings};
 use ends::end::End;
 use files::accept::accept;
@@ -7,37 +7,35 @@ use files::format::Format;
 use readers::bit_file::BitFile;
 use readers::range_file::RangeFile;
 use readers::setting_file::SettingFile;
-use sources::source::Source;
+use sources::block::Block;
+use sources::source::{Answer, Source};
 use std::alloc::Global;
 use std::process::Abort;
 use std::test::Fail;
 
 // A source that tells the end of an address.
 trait Ends: Source {
-    fn told(&self, address: u32) -> Told;
+    fn told(&self, address: u32) -> Answer<u16>;
 }
 
-fn told_of<E: End>(end: Option<E>) -> Told {
-    match end {
-        Some(end) => Told::All(end.encode()),
-        None => Told::Outside,
-    }
+fn told_of<E: End>(end: Option<E>) -> Answer<u16> {
+    end.map_or(Answer::Outside, |end| Answer::All(end.encode()))
 }
 
 impl<'a> Ends for BitFile<'a> {
-    fn told(&self, address: u32) -> Told {
+    fn told(&self, address: u32) -> Answer<u16> {
         told_of(self.end_at(address))
     }
 }
 
 impl<'a> Ends for SettingFile<'a> {
-    fn told(&self, address: u32) -> Told {
+    fn told(&self, address: u32) -> Answer<u16> {
         told_of(self.end_at(address))
     }
 }
 
 impl<'a> Ends for RangeFile<'a> {
-    fn told(&self, address: u32) -> Told {
+    fn told(&self, address: u32) -> Answer<u16> {
         told_of(self.end_at(address))
     }
 }
@@ -46,7 +44,11 @@ impl<'a> Ends for RangeFile<'a> {
 fn check_file<F: Ends>(rt: &impl Abort, file: &F, codes: &[u16]) {
     let pins = file.pins();
     for address in 0..34 {
-        assert_eq!(rt; file.told(address), told_by(file, pins, address).told);
+        let block = Block {
+            level: pins,
+            number: address,
+        };
+        assert_eq!(rt; file.told(address), told_by(file, block).told);
     }
     check_source(rt, file, codes);
 }

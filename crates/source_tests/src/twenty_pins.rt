@@ -1,15 +1,16 @@
 // Maps of 20 pins with one change of the end, at the edges of every level.
 ghost use Rattle.std.specs.Prelude.{◌≤◌};
 
-use crate::asking::{Asked, Told, check_nowhere, told_by};
+use crate::asking::{Asked, check_nowhere, told_by};
 use map_tests::building::{bit_map, range_map, setting_map};
 use readers::bit_file::BitFile;
 use readers::range_file::RangeFile;
 use readers::setting_file::SettingFile;
+use sources::block::Block;
 use sources::flipped::Flipped;
 use sources::inverted::Inverted;
 use sources::mounted::Mounted;
-use sources::source::Source;
+use sources::source::{Answer, Source};
 use std::alloc::Global;
 use std::process::Abort;
 use std::test::Fail;
@@ -25,20 +26,21 @@ struct Step {
 }
 
 // What is true of a block of the step: where the step is at a block's first address, it is not inside.
-fn true_of(step: Step, level: u32, block: u32) -> Asked
-    requires { level ≤ 20 }
+fn true_of(step: Step, block: Block) -> Asked
+    requires { block.level ≤ 20 }
 {
+    let Block { level, number } = block;
     let own = step.at >> (20 - level);
-    let told = if block >= 1 << level {
-        Told::Outside
-    } else if block < own {
-        Told::All(step.low)
-    } else if block == own && own << (20 - level) != step.at {
-        Told::Mixed
+    let told = if number >= 1 << level {
+        Answer::Outside
+    } else if number < own {
+        Answer::All(step.low)
+    } else if number == own && own << (20 - level) != step.at {
+        Answer::Mixed
     } else {
-        Told::All(step.high)
+        Answer::All(step.high)
     };
-    Asked { level, block, told }
+    Asked { block, told }
 }
 
 // The blocks at the edges of a level, and those about the step.
@@ -47,7 +49,7 @@ fn check_level<S: Source>(rt: &impl Abort, source: &S, step: Step, level: u32)
 {
     let last = (1u32 << level) - 1;
     let own = step.at >> (20 - level);
-    for block in [
+    for number in [
         0,
         1,
         last.saturating_sub(1),
@@ -57,7 +59,8 @@ fn check_level<S: Source>(rt: &impl Abort, source: &S, step: Step, level: u32)
         own,
         own.saturating_add(1),
     ] {
-        assert_eq!(rt; told_by(source, level, block), true_of(step, level, block));
+        let block = Block { level, number };
+        assert_eq!(rt; told_by(source, block), true_of(step, block));
     }
 }
 

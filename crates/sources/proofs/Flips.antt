@@ -3,6 +3,7 @@ use Rattle.std.proofs.Common.{◌≡◌, ℕ, ◌+◌, ◌-◌, ◌*◌, ◌/◌
 use lib.Bits.{bit_xor, xor_block, xor_lt, xor_assoc, xor_self, xor_zero_r}
 use lib.Pow.{mod-pow-add}
 use Rattle.std.proofs.lemmas.Nat.{mod_below}
+use Rattle.sources.specs.declared.block.Block.{Block}
 use Rattle.sources.specs.declared.source.Answer.{Answer}
 use Rattle.sources.specs.Blocks.{at, Inside, Says}
 use Rattle.sources.specs.Layers.{flipped}
@@ -48,10 +49,10 @@ module _ {E : Type 0} (n : ℕ) (f : ℕ → E) (j p mask : ℕ) (here : Inside 
   flip_says = carry n (flipped n mask f) j p here n f j asked there to back
 
 -- the same, as code has it, by the pins that the source below tells
-pub flip_follows : {E : Type 0} (n : ℕ) (f : ℕ → E) (pins mask j p q : ℕ) → pins ≡ n → Inside pins j p → q ≡ turned pins mask j p → (r : Answer E) → Says n f j q r → Says n (flipped n mask f) j p r
-flip_follows n f pins mask j p q e h a r s =
-    let asked : q ≡ turned n mask j p = a ∙ ap (λ x. turned x mask j p) e in
-    flip_says n f j p mask (subst (λ (x : ℕ). Inside x j p) e h) r (subst (λ (x : ℕ). Says n f j x r) asked s)
+pub flip_follows : {E : Type 0} (n : ℕ) (f : ℕ → E) (pins mask j p : ℕ) (b : Block) → pins ≡ n → Inside pins j p → (b.level ≡ j) × (b.number ≡ turned pins mask j p) → (r : Answer E) → Says n f b.level b.number r → Says n (flipped n mask f) j p r
+flip_follows n f pins mask j p b e h a r s =
+    let asked : b.number ≡ turned n mask j p = a.1 ∙ ap (λ x. turned x mask j p) e in
+    flip_says n f j p mask (subst (λ (x : ℕ). Inside x j p) e h) r (subst (λ (x : ℕ). Says n f j x r) asked (subst (λ (x : ℕ). Says n f x b.number r) a.0 s))
 
 -- a mask for n pins is wholly used
 pub flip_whole : {E : Type 0} (n mask : ℕ) (f : ℕ → E) (a : ℕ) → mask < 2 ^ n → flipped n mask f a ≡ f (bit_xor a mask)

@@ -5,9 +5,10 @@ use Rattle.std.proofs.lemmas.Nat.{mod_below, mul-add-lt}
 use Rattle.std.proofs.lemmas.Bool.Decides.{eqb_tells, leb_tells}
 use Rattle.sources.specs.declared.source.Answer.{Answer}
 use Rattle.sources.specs.declared.source.Answer.TheVariants.{All, Mixed, Outside}
+use Rattle.sources.specs.declared.block.Block.{Block}
 use Rattle.sources.specs.declared.overlap.Overlap.{Overlap}
 use Rattle.sources.specs.declared.overlap.Overlap.TheVariants.{Apart, Within, Around}
-use Rattle.sources.specs.Blocks.{at, Inside, Uniform, Differing, Says}
+use Rattle.sources.specs.Blocks.{at, Inside, Uniform, Differing, Says, whole as whole_block}
 use Rattle.sources.specs.Layers.{top, mounted}
 use Rattle.sources.specs.Steps.{overlap, with_fill}
 use Rattle.sources.proofs.Numbers.{none_left, block_of, rest_of}
@@ -147,8 +148,8 @@ module _ {E : Type 0} (n m b : ℕ) (fill : E) (f : ℕ → E) where
 module _ {E : Type 0} (code : E → ℕ) (same_end : (x y : E) → code x ≡ code y → x ≡ y) (n m b : ℕ) (fill : E) (f : ℕ → E) (j p : ℕ) (here : Inside n j p) where
   abbrev Follows : Overlap → Type 0
   Follows Apart = Uniform n (mounted n m b fill f) j p fill
-  Follows (Within k q) = (a : Answer E) → Says m f k q a → Says n (mounted n m b fill f) j p a
-  Follows Around = (a r : Answer E) → r ≡ with_fill code a fill → Says m f 0 0 a → Says n (mounted n m b fill f) j p r
+  Follows (Within w) = (a : Answer E) → Says m f w.level w.number a → Says n (mounted n m b fill f) j p a
+  Follows Around = (w : Block) (a r : Answer E) → w ≡ whole_block → r ≡ with_fill code a fill → Says m f w.level w.number a → Says n (mounted n m b fill f) j p r
 
   around : (u : ℕ) → u + j + m ≡ n → 0 < u → b / 2 ^ u ≡ p → (a : Answer E) → Says m f 0 0 a → Says n (mounted n m b fill f) j p (with_fill code a fill)
   around u e more base (All x) s =
@@ -165,7 +166,7 @@ module _ {E : Type 0} (code : E → ℕ) (same_end : (x y : E) → code x ≡ co
         | inl t ↦
             let u = n - m - j in
             elim (eqb_tells (b / 2 ^ u) p) [
-              | inl q ↦ rw (t.0, q.0) (λ a r z s. subst (Says n (mounted n m b fill f) j p) (sym z) (around u (omega (arith, t.1)) (omega (arith, t.1)) q.1 a s))
+              | inl q ↦ rw (t.0, q.0) (λ w a r y z s. subst (Says n (mounted n m b fill f) j p) (sym z) (around u (omega (arith, t.1)) (omega (arith, t.1)) q.1 a (subst (λ (x : Block). Says m f x.level x.number a) y s)))
               | inr q ↦ rw (t.0, q.0) (shallow_off n m b fill f j p here u (omega (arith, t.1)) q.1)
             ]
         | inr t ↦

@@ -1,5 +1,6 @@
 -- Blocks of addresses, and what an answer says of one.
 use Rattle.std.specs.Prelude.{◌≡◌, ℕ, ◌+◌, ◌-◌, ◌*◌, ◌^◌, ◌<◌, ◌≤◌}
+use Rattle.sources.specs.declared.block.Block.{Block}
 use Rattle.sources.specs.declared.source.Answer.{Answer}
 use Rattle.sources.specs.declared.source.Answer.TheVariants.{All, Mixed, Outside}
 
@@ -11,6 +12,10 @@ at n j p i = p * 2 ^ (n - j) + i
 pub record Inside (n j p : ℕ) : Type 0 where
   pub level : j ≤ n
   pub block : p < 2 ^ j
+
+-- the block of all addresses
+abbrev pub whole : Block
+whole = record { level = 0; number = 0 }
 
 -- each address of the block has the end e
 pub record Uniform {E : Type 0} (n : ℕ) (f : ℕ → E) (j p : ℕ) (e : E) : Type 0 where

@@ -11,7 +11,7 @@ turned n mask j p = bit_xor p (mask / 2 ^ (n - j) % 2 ^ j)
 
 -- how block p of level j of n pins meets a source of m pins at base b
 abbrev pub overlap : (n m b j p : ℕ) → Overlap
-overlap n m b j p = cond (nat_lt (j + m) n) (cond (b / 2 ^ (n - m - j) == p) Around Apart) (cond (p / 2 ^ (j + m - n) == b) (Within (j + m - n) (p % 2 ^ (j + m - n))) Apart)
+overlap n m b j p = cond (nat_lt (j + m) n) (cond (b / 2 ^ (n - m - j) == p) Around Apart) (cond (p / 2 ^ (j + m - n) == b) (Within (record { level = j + m - n; number = p % 2 ^ (j + m - n) })) Apart)
 
 -- the answer for what a first answer is of, and some addresses of the fill end
 abbrev pub with_fill : {E : Type 0} → (E → ℕ) → Answer E → E → Answer E

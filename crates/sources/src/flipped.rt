@@ -3,7 +3,7 @@ ghost use Rattle.sources.specs.Layers.{flipped};
 ghost use Rattle.sources.specs.Grounds.{flip_fault};
 ghost use Rattle.sources.specs.Steps.{turned};
 
-use crate::block::is_block;
+use crate::block::Block;
 use crate::source::{Answer, Source};
 use faults::fault::{Fault, Ground};
 
@@ -27,12 +27,15 @@ impl<S: Source + Drop> Flipped<S> {
 }
 
 // The block that has the addresses of a block with the pins of the mask turned over.
-fn turned_block(pins: u32, mask: u32, level: u32, block: u32) -> u32
-    requires { (pins ≤ 20) × (level ≤ pins) }
-    ensures { result ≡ turned pins mask level block }
+fn turned_block(pins: u32, mask: u32, block: Block) -> Block
+    requires { (pins ≤ 20) × (block.level ≤ pins) }
+    ensures { (result.level ≡ block.level) × (result.number ≡ turned pins mask block.level block.number) }
 {
-    let top = (mask >> (pins - level)) % (1 << level);
-    block ^ top
+    let top = (mask >> (pins - block.level)) % (1 << block.level);
+    Block {
+        number: block.number ^ top,
+        ..block
+    }
 }
 
 impl<S: Source> Source for Flipped<S> {
@@ -50,12 +53,11 @@ impl<S: Source> Source for Flipped<S> {
         self.below.pins()
     }
 
-    fn ask(&self, level: u32, block: u32) -> Answer<S::Of> {
+    fn ask(&self, block: Block) -> Answer<S::Of> {
         let pins = self.below.pins();
-        if !is_block(pins, level, block) {
+        if !block.is_in(pins) {
             return Answer::Outside;
         }
-        self.below
-            .ask(level, turned_block(pins, self.mask, level, block))
+        self.below.ask(turned_block(pins, self.mask, block))
     }
 }

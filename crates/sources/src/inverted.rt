@@ -1,6 +1,7 @@
 ghost use Rattle.std.specs.Prelude.{◌≡◌};
 ghost use Rattle.sources.specs.Layers.{inverted};
 
+use crate::block::Block;
 use crate::source::{Answer, Source};
 
 // An inverted line: every end of the source below is the other bit.
@@ -32,11 +33,7 @@ impl<S: Source<Of = bool>> Source for Inverted<S> {
         self.below.pins()
     }
 
-    fn ask(&self, level: u32, block: u32) -> Answer<bool> {
-        match self.below.ask(level, block) {
-            Answer::All(end) => Answer::All(!end),
-            Answer::Mixed => Answer::Mixed,
-            Answer::Outside => Answer::Outside,
-        }
+    fn ask(&self, block: Block) -> Answer<bool> {
+        self.below.ask(block).map(|end| !end)
     }
 }

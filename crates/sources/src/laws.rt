@@ -3,6 +3,7 @@ ghost use Rattle.sources.specs.declared.source.Answer.TheVariants.{All};
 ghost use Rattle.sources.specs.Examples.{MountSettles};
 ghost use Rattle.sources.specs.Laws.{AnswersDetermined, FlipsByMask, MountsAtBase, RefusalsExact};
 
+use crate::block::Block;
 use crate::mounted::Mounted;
 use crate::source::{Answer, Source};
 use ends::end::End;
@@ -34,5 +35,22 @@ pub fn mount_of_one_pin<S: Source<Of = bool> + Drop>(one: S) -> Result<[Answer<b
     ensures { S.Source.width one ≡ 1 → S.Source.selection one 0 ≡ false → S.Source.selection one 1 ≡ true → result ≡ Ok (All false ∷ All false ∷ All false ∷ All true ∷ []) }
 {
     let two = Mounted::new(one, 2, 1, false)?;
-    Ok([two.ask(2, 0), two.ask(2, 1), two.ask(2, 2), two.ask(2, 3)])
+    Ok([
+        two.ask(Block {
+            level: 2,
+            number: 0,
+        }),
+        two.ask(Block {
+            level: 2,
+            number: 1,
+        }),
+        two.ask(Block {
+            level: 2,
+            number: 2,
+        }),
+        two.ask(Block {
+            level: 2,
+            number: 3,
+        }),
+    ])
 }

@@ -1,3 +1,4 @@
+use crate::block::Block;
 use crate::source::{Answer, Source};
 
 // A source that is lent is a source.
@@ -16,7 +17,7 @@ impl<'a, S: Source> Source for &'a S {
         (**self).pins()
     }
 
-    fn ask(&self, level: u32, block: u32) -> Answer<S::Of> {
-        (**self).ask(level, block)
+    fn ask(&self, block: Block) -> Answer<S::Of> {
+        (**self).ask(block)
     }
 }

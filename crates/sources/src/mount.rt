@@ -3,7 +3,7 @@ ghost use Rattle.sources.specs.Layers.{mounted};
 ghost use Rattle.sources.specs.Grounds.{mount_fault};
 ghost use Rattle.sources.specs.Steps.{with_fill};
 
-use crate::block::is_block;
+use crate::block::Block;
 use crate::mounted::Mounted;
 use crate::overlap::{Overlap, overlap_of};
 use crate::source::{Answer, Source};
@@ -63,14 +63,14 @@ impl<S: Source> Source for Mounted<S> {
         self.pins
     }
 
-    fn ask(&self, level: u32, block: u32) -> Answer<S::Of> {
-        if !is_block(self.pins, level, block) {
+    fn ask(&self, block: Block) -> Answer<S::Of> {
+        if !block.is_in(self.pins) {
             return Answer::Outside;
         }
-        match overlap_of(self.pins, self.below.pins(), self.base, level, block) {
+        match overlap_of(self.pins, self.below.pins(), self.base, block) {
             Overlap::Apart => Answer::All(self.fill),
-            Overlap::Within(level, block) => self.below.ask(level, block),
-            Overlap::Around => with_fill(self.below.ask(0, 0), self.fill),
+            Overlap::Within(block) => self.below.ask(block),
+            Overlap::Around => with_fill(self.below.ask(Block::whole()), self.fill),
         }
     }
 }

@@ -2,6 +2,7 @@ ghost use Rattle.std.specs.Prelude.{◌≤◌};
 ghost use Rattle.std.proofs.Common.{lit≤};
 ghost use Rattle.sources.specs.Examples.{switch_at_1};
 
+use crate::block::Block;
 use crate::flipped::Flipped;
 use crate::inverted::Inverted;
 use crate::laws::mount_of_one_pin;
@@ -29,8 +30,8 @@ impl Source for One {
         1
     }
 
-    fn ask(&self, level: u32, block: u32) -> Answer<bool> {
-        match (level, block) {
+    fn ask(&self, block: Block) -> Answer<bool> {
+        match (block.level, block.number) {
             (0, 0) => Answer::Mixed,
             (1, 0) => Answer::All(false),
             (1, 1) => Answer::All(true),
@@ -39,22 +40,13 @@ impl Source for One {
     }
 }
 
-fn letter(answer: Answer<bool>) -> char {
-    match answer {
-        Answer::All(false) => '0',
-        Answer::All(true) => '1',
-        Answer::Mixed => 'm',
-        Answer::Outside => 'o',
-    }
-}
-
 #[test]
 fn mounts_one_pin(rt: HostRuntime) -> Result<(), Fail> {
     let [a, b, c, d] = mount_of_one_pin(One)?;
-    assert_eq!(rt; letter(a), '0');
-    assert_eq!(rt; letter(b), '0');
-    assert_eq!(rt; letter(c), '0');
-    assert_eq!(rt; letter(d), '1');
+    assert_eq!(rt; a, Answer::All(false));
+    assert_eq!(rt; b, Answer::All(false));
+    assert_eq!(rt; c, Answer::All(false));
+    assert_eq!(rt; d, Answer::All(true));
     Ok(())
 }
 
@@ -63,13 +55,14 @@ fn stacks_layers(rt: HostRuntime) -> Result<(), Fail> {
     let mounted = Mounted::new(&One, 3, 2, true)?;
     let flipped = Flipped::new(&mounted, 5)?;
     let inverted = Inverted::new(flipped);
+    let ask = |level, number| inverted.ask(Block { level, number });
     assert_eq!(rt; inverted.pins(), 3);
-    assert_eq!(rt; letter(inverted.ask(0, 0)), 'm');
-    assert_eq!(rt; letter(inverted.ask(2, 0)), 'm');
-    assert_eq!(rt; letter(inverted.ask(3, 0)), '0');
-    assert_eq!(rt; letter(inverted.ask(3, 1)), '1');
-    assert_eq!(rt; letter(inverted.ask(1, 1)), '0');
-    assert_eq!(rt; letter(inverted.ask(3, 8)), 'o');
+    assert_eq!(rt; ask(0, 0), Answer::Mixed);
+    assert_eq!(rt; ask(2, 0), Answer::Mixed);
+    assert_eq!(rt; ask(3, 0), Answer::All(false));
+    assert_eq!(rt; ask(3, 1), Answer::All(true));
+    assert_eq!(rt; ask(1, 1), Answer::All(false));
+    assert_eq!(rt; ask(3, 8), Answer::Outside);
     Ok(())
 }
 

@@ -12,17 +12,17 @@ use Rattle.trees.specs.declared.tree.Half.{Half}
 use Rattle.trees.specs.declared.tree.Half.TheVariants.{Code, Split}
 use Rattle.trees.specs.declared.tree.Record.{Record}
 use Rattle.trees.specs.Mixed.{mixed, Block, mixed_blocks}
-use Rattle.trees.specs.Records.{place, half, divided, records, Written, Refused}
+use Rattle.trees.specs.Records.{blank, place, half, divided, records, Written, Refused}
 use Rattle.trees.specs.Growth.{alone, halves, opened, fresh, with_halves, record_at, block_at, Grown, Full, Filed, Drafted, Untouched, Advanced}
 use Rattle.trees.proofs.Differ.{none_mixed, some_whole}
 use Rattle.trees.proofs.Order.{ordered, place_at, listed_there}
 use Rattle.trees.proofs.Rows.{alone_so, alone_not, rows, rows_all, rows_past, rows_none, opened_none, opened_le, opened_more, ahead, begun, opened_rows}
 
 set_same : (t : List Record) (i : ℕ) (r : Record) → i < length t → record_at (set t i r) i ≡ r
-set_same t i r h = get_or-set_same t i r (fresh 0 0) h
+set_same t i r h = get_or-set_same t i r blank h
 
 set_other : (t : List Record) (i k : ℕ) (r : Record) → k ≢ i → record_at (set t i r) k ≡ record_at t k
-set_other t i k r h = get_or-set_other t i k r (fresh 0 0) h
+set_other t i k r h = get_or-set_other t i k r blank h
 
 -- a table where one more block is looked at: those in it are front, and the tree goes on with this one if it is mixed
 module _ (n : ℕ) (c : ℕ → ℕ) (j p : ℕ) (front rest : List Block) (whole : (front ++ alone n c j p) ++ rest ≡ mixed_blocks n c) where
@@ -76,8 +76,8 @@ module _ (n : ℕ) (c : ℕ → ℕ) (j p : ℕ) (front rest : List Block) (whol
         filed = record {
           begun = omega (arith, f.begun);
           within = omega (arith, length-set t len (fresh j p));
-          level_is = push (λ r. r.level) (λ b. b.0) f.level_is refl;
-          block_is = push (λ r. r.block) (λ b. b.1) f.block_is refl;
+          level_is = push (λ r. r.block.level) (λ b. b.0) f.level_is refl;
+          block_is = push (λ r. r.block.number) (λ b. b.1) f.block_is refl;
           whole = λ k h. old_at k (omega (arith, f.begun)) ∙ f.whole k h;
         };
         half_is = ap Split count ∙ half_split m;
@@ -126,18 +126,18 @@ module _ (n : ℕ) (c : ℕ → ℕ) (t : List Record) (i len : ℕ) (f : Filed 
   filled_filed = record {
     begun = omega arith;
     within = omega (arith, f.within, length-set t i r);
-    level_is = keep (λ x. x.level) (λ b. b.0) f.level_is refl;
-    block_is = keep (λ x. x.block) (λ b. b.1) f.block_is refl;
+    level_is = keep (λ x. x.block.level) (λ b. b.0) f.level_is refl;
+    block_is = keep (λ x. x.block.number) (λ b. b.1) f.block_is refl;
     whole = filled_whole;
   }
 
 -- record i of a table is divided
 module _ (n : ℕ) (c : ℕ → ℕ) (t : List Record) (i len : ℕ) (d : Drafted n c t i len) (here : i < len) where
   abbrev level : ℕ
-  level = (record_at t i).level
+  level = (record_at t i).block.level
 
   abbrev block : ℕ
-  block = (record_at t i).block
+  block = (record_at t i).block.number
 
   in_tree : i < length (mixed_blocks n c)
   in_tree = omega (arith, d.counted, opened_le n c i)
@@ -285,14 +285,14 @@ module _ (n : ℕ) (c : ℕ → ℕ) (t v : List Record) (done len : ℕ) (d : D
   whole_records : take len v ≡ records n c
   unfolding records
   whole_records =
-      ext_get_or (fresh 0 0) (take len v) (map (divided n c) (mixed_blocks n c)) (length-take-le len v d.filed.within ∙ all_len ∙ sym (length-map (mixed_blocks n c) (divided n c)))
-      (λ k h. let l : k < len = omega (arith, h, length-take-le len v d.filed.within) in get_or-take len v k (fresh 0 0) l ∙ d.filed.whole k (omega (arith, all_done, all_len)) ∙ sym (get_or-map (divided n c) (mixed_blocks n c) k (0, 0) (fresh 0 0) (omega (arith, all_len))))
+      ext_get_or blank (take len v) (map (divided n c) (mixed_blocks n c)) (length-take-le len v d.filed.within ∙ all_len ∙ sym (length-map (mixed_blocks n c) (divided n c)))
+      (λ k h. let l : k < len = omega (arith, h, length-take-le len v d.filed.within) in get_or-take len v k blank l ∙ d.filed.whole k (omega (arith, all_done, all_len)) ∙ sym (get_or-map (divided n c) (mixed_blocks n c) k (0, 0) blank (omega (arith, all_len))))
 
   pub written : (pins : ℕ) (root : Half) → n ≤ 20 → pins ≡ n → root ≡ half n c 0 0 → Written n c t v (record { pins = pins; root = root; len = len })
   written pins root few p r = record {
     room = omega (arith, d.filed.within, all_len, same);
     built = record { few = few; pins = p; root = r; len = all_len; listed = whole_records };
     past =
-        ext_get_or (fresh 0 0) (drop len v) (drop len t) (length-drop len v ∙ ap (λ x. x - len) same ∙ sym (length-drop len t))
-        (λ k h. get_or-drop len v k (fresh 0 0) ∙ past (len + k) (omega arith) ∙ sym (get_or-drop len t k (fresh 0 0)));
+        ext_get_or blank (drop len v) (drop len t) (length-drop len v ∙ ap (λ x. x - len) same ∙ sym (length-drop len t))
+        (λ k h. get_or-drop len v k blank ∙ past (len + k) (omega arith) ∙ sym (get_or-drop len t k blank));
   }

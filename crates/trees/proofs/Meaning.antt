@@ -7,8 +7,8 @@ use Rattle.sources.specs.Blocks.{Inside, Differing}
 use Rattle.trees.specs.declared.tree.Record.{Record}
 use Rattle.model.specs.Lists.{In}
 use Rattle.trees.specs.Mixed.{mixed, Block, mixed_block, mixed_blocks}
-use Rattle.trees.specs.Records.{place, half, divided, records}
-use Rattle.trees.specs.Growth.{fresh, record_at}
+use Rattle.trees.specs.Records.{blank, place, half, divided, records}
+use Rattle.trees.specs.Growth.{record_at}
 use Rattle.trees.specs.Theorems.{Recorded, Means, Divides, block_of}
 use Rattle.trees.proofs.Differ.{mixed_so, mixed_level, uniform_of, differing_of, low_inside, high_inside}
 use Rattle.trees.proofs.Order.{There, ordered, listed_there, listed_mixed, mixed_listed, all_in, at_place}
@@ -25,7 +25,7 @@ module _ (n : ℕ) (c : ℕ → ℕ) where
 
   record_is : (i : ℕ) → i < length (mixed_blocks n c) → record_at (records n c) i ≡ divided n c (get_or (mixed_blocks n c) i (0, 0))
   unfolding records
-  record_is i h = get_or-map (divided n c) (mixed_blocks n c) i (0, 0) (fresh 0 0) h
+  record_is i h = get_or-map (divided n c) (mixed_blocks n c) i (0, 0) blank h
 
   records_length : length (records n c) ≡ length (mixed_blocks n c)
   unfolding records
@@ -38,8 +38,8 @@ module _ (n : ℕ) (c : ℕ → ℕ) where
       let r = record_is (place (j, p) (mixed_blocks n c)) a.0 in
       record {
         index = omega (arith, a.0, records_length);
-        level = ap (λ (x : Record). x.level) r ∙ ap (λ (b : Block). b.0) a.1;
-        block = ap (λ (x : Record). x.block) r ∙ ap (λ (b : Block). b.1) a.1;
+        level = ap (λ (x : Record). x.block.level) r ∙ ap (λ (b : Block). b.0) a.1;
+        block = ap (λ (x : Record). x.block.number) r ∙ ap (λ (b : Block). b.1) a.1;
       }
 
   pub half_means : (j p : ℕ) → Inside n j p → Means n c (records n c) j p (half n c j p)

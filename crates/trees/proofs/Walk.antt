@@ -11,8 +11,8 @@ use Rattle.trees.specs.declared.tree.Tree.{Tree}
 use Rattle.trees.specs.Mixed.{differs, mixed, mixed_blocks}
 use Rattle.model.specs.Selections.{pin}
 use Rattle.trees.specs.Left.{TwoLeft, Left}
-use Rattle.trees.specs.Records.{place, half, divided, records, Built}
-use Rattle.trees.specs.Growth.{fresh, record_at}
+use Rattle.trees.specs.Records.{blank, place, half, divided, records, Built}
+use Rattle.trees.specs.Growth.{record_at}
 use Rattle.trees.specs.Walk.{Stands, agreed, bit, fixed, side}
 use Rattle.trees.proofs.Differ.{differs_tells, same_tells, mixed_level}
 use Rattle.trees.proofs.Order.{ordered, at_place, mixed_listed}
@@ -95,7 +95,7 @@ module _ (n : ℕ) (c : ℕ → ℕ) (t : List Record) (j p k : ℕ) (h : Half) 
     record_is : record_at t i ≡ divided n c (j, p)
     unfolding records
     record_is =
-        sym (get_or-take (length (mixed_blocks n c)) t i (fresh 0 0) placed.0) ∙ ap (λ (x : List Record). get_or x i (fresh 0 0)) s.listed ∙ get_or-map (divided n c) (mixed_blocks n c) i (0, 0) (fresh 0 0) placed.0 ∙ ap (divided n c) placed.1
+        sym (get_or-take (length (mixed_blocks n c)) t i blank placed.0) ∙ ap (λ (x : List Record). get_or x i blank) s.listed ∙ get_or-map (divided n c) (mixed_blocks n c) i (0, 0) blank placed.0 ∙ ap (divided n c) placed.1
 
     -- a record's halves stand for the block's halves
     pub down : (m : ℕ) → k ≡ m + 1 → (b : Bool) → Stands n c t (j + 1) (sub_block p b) m (side (record_at t i) b) (half_codes f m b)

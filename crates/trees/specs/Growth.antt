@@ -7,7 +7,7 @@ use Rattle.trees.specs.declared.tree.Half.{Half}
 use Rattle.trees.specs.declared.tree.Half.TheVariants.{Code, Split}
 use Rattle.trees.specs.declared.tree.Record.{Record}
 use Rattle.trees.specs.Mixed.{Block, mixed, block_code, mixed_blocks}
-use Rattle.trees.specs.Records.{divided, Refused}
+use Rattle.trees.specs.Records.{blank, divided, Refused}
 
 -- the block alone, if it is mixed
 unfoldable pub alone : ℕ → (ℕ → ℕ) → (j p : ℕ) → List Block
@@ -27,14 +27,14 @@ opened n c i = alone n c 0 0 ++ flat n c (take i (mixed_blocks n c))
 
 -- the record of a block that is not yet divided
 abbrev pub fresh : (j p : ℕ) → Record
-fresh j p = record { level = j; block = p; low = Code 0; high = Code 0 }
+fresh j p = record { block = record { level = j; number = p }; low = Code 0; high = Code 0 }
 
 -- a record with its halves
 abbrev pub with_halves : Record → (low high : Half) → Record
-with_halves r l h = record { level = r.level; block = r.block; low = l; high = h }
+with_halves r l h = record { block = r.block; low = l; high = h }
 
 abbrev pub record_at : List Record → ℕ → Record
-record_at t k = slice_index_or t k (fresh 0 0)
+record_at t k = slice_index_or t k blank
 
 abbrev pub block_at : ℕ → (ℕ → ℕ) → ℕ → Block
 block_at n c k = slice_index_or (mixed_blocks n c) k (0, 0)
@@ -73,8 +73,8 @@ Grows n c j p before len after (Err fault) = Full n c j p before len fault
 pub record Filed (n : ℕ) (c : ℕ → ℕ) (t : List Record) (done len : ℕ) : Type 0 where
   pub begun : done ≤ len
   pub within : len ≤ length t
-  pub level_is : (k : ℕ) → k < len → (record_at t k).level ≡ (block_at n c k).0
-  pub block_is : (k : ℕ) → k < len → (record_at t k).block ≡ (block_at n c k).1
+  pub level_is : (k : ℕ) → k < len → (record_at t k).block.level ≡ (block_at n c k).0
+  pub block_is : (k : ℕ) → k < len → (record_at t k).block.number ≡ (block_at n c k).1
   pub whole : (k : ℕ) → k < done → record_at t k ≡ divided n c (block_at n c k)
 
 -- and these are all the blocks that the first done open

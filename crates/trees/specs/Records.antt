@@ -3,6 +3,7 @@ use Rattle.std.specs.Prelude.{◌≡◌, ℕ, ◌+◌, ◌-◌, ◌*◌, ◌^◌
 use Rattle.faults.specs.declared.fault.Fault.{Fault}
 use Rattle.faults.specs.declared.fault.Ground.TheVariants.{TreeTable}
 use Rattle.faults.specs.Refusals.{at}
+use Rattle.sources.specs.Blocks.{whole}
 use Rattle.trees.specs.declared.tree.Half.{Half}
 use Rattle.trees.specs.declared.tree.Half.TheVariants.{Code, Split}
 use Rattle.trees.specs.declared.tree.Record.{Record}
@@ -11,7 +12,7 @@ use Rattle.trees.specs.Mixed.{Block, mixed, mixed_blocks}
 
 -- the record of all zeros
 abbrev pub blank : Record
-blank = record { level = 0; block = 0; low = Code 0; high = Code 0 }
+blank = record { block = whole; low = Code 0; high = Code 0 }
 
 abbrev pub same_block : Block → Block → Bool
 same_block a b = a.0 == b.0 && a.1 == b.1
@@ -28,8 +29,7 @@ half n c j p = cond (mixed n c j p) (Split (place (j, p) (mixed_blocks n c))) (C
 -- a block with its two halves
 unfoldable pub divided : ℕ → (ℕ → ℕ) → Block → Record
 divided n c b = record {
-  level = b.0;
-  block = b.1;
+  block = record { level = b.0; number = b.1 };
   low = half n c (b.0 + 1) (2 * b.1);
   high = half n c (b.0 + 1) (2 * b.1 + 1);
 }

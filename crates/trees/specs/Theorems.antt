@@ -19,8 +19,8 @@ pub record ListsMixed : Type 0 where
 -- record i is that of block p of level j
 pub record Recorded (rs : List Record) (j p i : ℕ) : Type 0 where
   pub index : i < length rs
-  pub level : (record_at rs i).level ≡ j
-  pub block : (record_at rs i).block ≡ p
+  pub level : (record_at rs i).block.level ≡ j
+  pub block : (record_at rs i).block.number ≡ p
 
 -- each address of block p of level j has the code, or the record is the block's
 abbrev pub Means : (n : ℕ) → (ℕ → ℕ) → List Record → (j p : ℕ) → Half → Type 0
@@ -29,12 +29,12 @@ Means n c rs j p (Split i) = Recorded rs j p i
 
 -- the record's block is mixed, and its halves mean the block's halves
 pub record Divides (n : ℕ) (c : ℕ → ℕ) (rs : List Record) (r : Record) : Type 0 where
-  pub two : Differing n c r.level r.block
-  pub low : Means n c rs (r.level + 1) (2 * r.block) r.low
-  pub high : Means n c rs (r.level + 1) (2 * r.block + 1) r.high
+  pub two : Differing n c r.block.level r.block.number
+  pub low : Means n c rs (r.block.level + 1) (2 * r.block.number) r.low
+  pub high : Means n c rs (r.block.level + 1) (2 * r.block.number + 1) r.high
 
 abbrev pub block_of : Record → Block
-block_of r = (r.level, r.block)
+block_of r = (r.block.level, r.block.number)
 
 -- the records are the mixed blocks, each divided, below a root that means block 0 of level 0
 pub record DividesAll : Type 0 where
@@ -69,4 +69,4 @@ pub record SettledTrees : Type 0 where
   pub pins_1_3 : count 2 0 ((1, 1) ∷ (3, 0) ∷ []) ≡ 3
   pub pins_5 : count 4 0 ((5, 1) ∷ []) ≡ 4
   pub settings_1_2 : count 2 8 ((1, 16) ∷ (2, 8) ∷ []) ≡ 2
-  pub settings_records : records 2 (switched 8 ((1, 16) ∷ (2, 8) ∷ [])) ≡ record { level = 0; block = 0; low = Split 1; high = Code 8 } ∷ record { level = 1; block = 0; low = Code 8; high = Code 16 } ∷ []
+  pub settings_records : records 2 (switched 8 ((1, 16) ∷ (2, 8) ∷ [])) ≡ record { block = record { level = 0; number = 0 }; low = Split 1; high = Code 8 } ∷ record { block = record { level = 1; number = 0 }; low = Code 8; high = Code 16 } ∷ []

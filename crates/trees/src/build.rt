@@ -7,15 +7,15 @@ ghost use Rattle.trees.specs.Records.{Builds};
 use crate::tree::{Half, Record, Tree};
 use ends::end::End;
 use faults::fault::{Fault, Ground};
+use sources::block::Block;
 use sources::source::{Answer, Source};
 
 impl Record {
     // A block whose halves are not yet known.
-    fn undivided(level: u32, block: u32) -> Record
-        ensures { result ≡ fresh level block }
+    fn undivided(block: Block) -> Record
+        ensures { result ≡ fresh block.level block.number }
     {
         Record {
-            level,
             block,
             low: Half::Code(0),
             high: Half::Code(0),
@@ -31,11 +31,11 @@ impl Record {
 }
 
 // The one code of a block, or nothing if the block is mixed.
-fn code_of<S: Source>(source: &S, level: u32, block: u32) -> Option<u16>
-    requires { Inside (S.Source.width source.now) level block }
-    ensures { result ≡ block_code (S.Source.width source.now) (codes S.Of.End.code (S.Source.selection source.now)) level block }
+fn code_of<S: Source>(source: &S, block: Block) -> Option<u16>
+    requires { Inside (S.Source.width source.now) block.level block.number }
+    ensures { result ≡ block_code (S.Source.width source.now) (codes S.Of.End.code (S.Source.selection source.now)) block.level block.number }
 {
-    match source.ask(level, block) {
+    match source.ask(block) {
         Answer::All(end) => Some(end.encode()),
         Answer::Mixed => None,
         Answer::Outside => unreachable(),
@@ -45,19 +45,18 @@ fn code_of<S: Source>(source: &S, level: u32, block: u32) -> Option<u16>
 // What stands for a block, with a new record at `len` if the block is mixed; and the number of records then.
 fn grow<S: Source>(
     source: &S,
-    level: u32,
-    block: u32,
+    block: Block,
     table: &mut [Record],
     len: usize,
 ) -> Result<(Half, usize), Fault>
-    requires { (Inside (S.Source.width source.now) level block) × (len ≤ length table.old) }
-    ensures { Grows (S.Source.width source.now) (codes S.Of.End.code (S.Source.selection source.now)) level block table.old len table.new result }
+    requires { (Inside (S.Source.width source.now) block.level block.number) × (len ≤ length table.old) }
+    ensures { Grows (S.Source.width source.now) (codes S.Of.End.code (S.Source.selection source.now)) block.level block.number table.old len table.new result }
 {
-    let Some(code) = code_of(source, level, block) else {
+    let Some(code) = code_of(source, block) else {
         if len >= table.len() {
             return Err(Ground::TreeTable.at(table.len()));
         }
-        table[len] = Record::undivided(level, block);
+        table[len] = Record::undivided(block);
         return Ok((Half::Split(len), len + 1));
     };
     Ok((Half::Code(code), len))
@@ -69,10 +68,16 @@ fn divide<S: Source>(source: &S, table: &mut [Record], i: usize, len: usize) -> 
     ensures { Advances (S.Source.width source.now) (codes S.Of.End.code (S.Source.selection source.now)) table.old len table.new (i + 1) result }
 {
     let record = table[i];
-    let level = record.level + 1;
-    let block = 2 * record.block;
-    let (low, len) = grow(source, level, block, table, len)?;
-    let (high, len) = grow(source, level, block + 1, table, len)?;
+    let low = Block {
+        level: record.block.level + 1,
+        number: 2 * record.block.number,
+    };
+    let high = Block {
+        number: low.number + 1,
+        ..low
+    };
+    let (low, len) = grow(source, low, table, len)?;
+    let (high, len) = grow(source, high, table, len)?;
     table[i] = record.divided(low, high);
     Ok(len)
 }
@@ -99,7 +104,7 @@ pub fn build<S: Source>(source: &S, table: &mut [Record]) -> Result<Tree, Fault>
     ensures { Builds (S.Source.width source.now) (codes S.Of.End.code (S.Source.selection source.now)) table.old table.new result }
 {
     let pins = source.pins();
-    let (root, count) = grow(source, 0, 0, table, 0)?;
+    let (root, count) = grow(source, Block::whole(), table, 0)?;
     let mut len = count;
     let mut done = 0;
     for level in 0..pins {

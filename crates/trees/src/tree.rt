@@ -1,6 +1,8 @@
 ghost use Rattle.std.specs.Prelude.{◌≡◌};
 ghost use Rattle.trees.specs.Records.{blank};
 
+use sources::block::Block;
+
 // What stands for a block: its code where all its addresses have one, or the index of its record where it is mixed.
 #[derive(Clone, Copy)]
 pub enum Half {
@@ -8,11 +10,10 @@ pub enum Half {
     Split(usize),
 }
 
-// A mixed block with its two halves. Block `block` of level `level` has the addresses whose top `level` bits are `block`.
+// A mixed block with its two halves.
 #[derive(Clone, Copy)]
 pub struct Record {
-    pub level: u32,
-    pub block: u32,
+    pub block: Block,
     pub low: Half,
     pub high: Half,
 }
@@ -23,15 +24,14 @@ impl Record {
         ensures { result ≡ blank }
     {
         Record {
-            level: 0,
-            block: 0,
+            block: Block::whole(),
             low: Half::Code(0),
             high: Half::Code(0),
         }
     }
 }
 
-// A tree of `len` records at the start of a table, with what stands for block 0 of level 0.
+// A tree of `len` records at the start of a table, with what stands for the block of all addresses.
 #[derive(Clone, Copy)]
 pub struct Tree {
     pub pins: u32,

@@ -1,18 +1,30 @@
-use Rattle.std.proofs.Common.{◌≡◌, ℕ, ◌≤◌, length, ap, ◌∙◌, arith}
+use Rattle.std.proofs.Common.{◌≡◌, ℕ, ◌≤◌, List, length, ap, ◌∙◌, subst, arith}
 use Rattle.std.proofs.lemmas.Result.{err_from_is_err_and}
+use Rattle.faults.specs.declared.fault.Fault.{Fault}
+use Rattle.sources.specs.declared.block.Block.{Block}
+use Rattle.sources.specs.Blocks.{whole}
+use Rattle.trees.specs.declared.tree.Half.{Half}
+use Rattle.trees.specs.declared.tree.Record.{Record}
+use Rattle.trees.specs.Growth.{Grown, Full}
 use Rattle.trees.specs.Mixed.{codes}
 use Rattle.trees.proofs.Rows.{rows}
 use Rattle.trees.proofs.Fill.{root_full, root_is, root_drafted, root_untouched, advanced_none, advanced_on, refused_on, no_rows, level_end, written}
 use Rattle.trees.proofs.build.build.Goals as goal
 
+refused_root : (n : ℕ) (f : ℕ → ℕ) (t : List Record) (fault : Fault) (b : Block) → b ≡ whole → Full n f b.level b.number t 0 fault → Full n f 0 0 t 0 fault
+refused_root n f t fault b e g = subst (λ (x : Block). Full n f x.level x.number t 0 fault) e g
+
+grown_root : (n : ℕ) (f : ℕ → ℕ) (t u : List Record) (h : Half) (m : ℕ) (b : Block) → b ≡ whole → Grown n f b.level b.number t 0 h u m → Grown n f 0 0 t 0 h u m
+grown_root n f t u h m b e g = subst (λ (x : Block). Grown n f x.level x.number t 0 h u m) e g
+
 pub returns-in_err-root : goal.returns-in_err-root
 returns-in_err-root g c =
     let p = err_from_is_err_and c.from_residual.result c.from_residual.ensures.1 in
-    rw (p.1, p.2) (root_full _ _ _ _ c.in_err-root.ensures)
+    rw (p.1, p.2) (root_full _ _ _ _ (refused_root _ _ _ _ _ c.whole.ensures c.in_err-root.ensures))
 
 pub loop-level-init : goal.loop-level-init
 loop-level-init g c =
-    (advanced_none _ _ _ 0 c.in_ok-root.count (root_drafted _ _ _ _ c.in_ok-root.root c.in_ok-root.count c.in_ok-root.ensures), no_rows _ _)
+    (advanced_none _ _ _ 0 c.in_ok-root.count (root_drafted _ _ _ _ c.in_ok-root.root c.in_ok-root.count (grown_root _ _ _ _ _ _ _ c.whole.ensures c.in_ok-root.ensures)), no_rows _ _)
 
 pub loop-level-preserved : goal.loop-level-preserved
 loop-level-preserved g c =
@@ -35,4 +47,4 @@ returns g c =
     let all : c.loop-level.done ≡ length (rows n f n) = c.loop-level.invariant.1 ∙ ap (λ (x : ℕ). length (rows n f x)) level in
     let same : length c.loop-level.table ≡ length c.args.table.now = omega arith in
     written n f c.args.table.now c.loop-level.table c.loop-level.done c.loop-level.len a.drafted all same
-    (λ k w. a.untouched k w ∙ root_untouched n f c.args.table.now c.grow.new.table c.in_ok-root.root c.in_ok-root.count c.in_ok-root.ensures k (omega (arith, a.more))) c.pins-pins.result c.in_ok-root.root (g.S.Source.few s) c.pins-pins.ensures (root_is n f c.args.table.now c.grow.new.table c.in_ok-root.root c.in_ok-root.count c.in_ok-root.ensures)
+    (λ k w. a.untouched k w ∙ root_untouched n f c.args.table.now c.grow.new.table c.in_ok-root.root c.in_ok-root.count (grown_root _ _ _ _ _ _ _ c.whole.ensures c.in_ok-root.ensures) k (omega (arith, a.more))) c.pins-pins.result c.in_ok-root.root (g.S.Source.few s) c.pins-pins.ensures (root_is n f c.args.table.now c.grow.new.table c.in_ok-root.root c.in_ok-root.count (grown_root _ _ _ _ _ _ _ c.whole.ensures c.in_ok-root.ensures))

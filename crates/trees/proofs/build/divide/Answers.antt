@@ -4,14 +4,14 @@ use Rattle.trees.proofs.Differ.{low_inside, high_inside}
 use Rattle.trees.proofs.Fill.{level_below, block_below, index_in, level_fits, low_fits, high_fits, low_full, low_within, high_full, divide_done}
 use Rattle.trees.proofs.build.divide.Goals as goal
 
-pub overflow_add-level : goal.overflow_add-level
-overflow_add-level g c = level_fits _ _ _ c.args.i c.args.len c.requires.0 c.requires.1 (g.S.Source.few c.args.source.now)
+pub overflow_add-low : goal.overflow_add-low
+overflow_add-low g c = level_fits _ _ _ c.args.i c.args.len c.requires.0 c.requires.1 (g.S.Source.few c.args.source.now)
 
-pub overflow_mul-block : goal.overflow_mul-block
-overflow_mul-block g c = low_fits _ _ _ c.args.i c.args.len c.requires.0 c.requires.1 (g.S.Source.few c.args.source.now)
+pub overflow_mul-low : goal.overflow_mul-low
+overflow_mul-low g c = low_fits _ _ _ c.args.i c.args.len c.requires.0 c.requires.1 (g.S.Source.few c.args.source.now)
 
-pub overflow_add-block : goal.overflow_add-block
-overflow_add-block g c = high_fits _ _ _ c.args.i c.args.len c.requires.0 c.requires.1 (g.S.Source.few c.args.source.now)
+pub overflow_add-high : goal.overflow_add-high
+overflow_add-high g c = high_fits _ _ _ c.args.i c.args.len c.requires.0 c.requires.1 (g.S.Source.few c.args.source.now)
 
 pub grow-requires : goal.grow-requires
 grow-requires g c = (low_inside _ _ _ (level_below _ _ _ c.args.i c.args.len c.requires.0 c.requires.1) (block_below _ _ _ c.args.i c.args.len c.requires.0 c.requires.1), c.requires.0.filed.within)

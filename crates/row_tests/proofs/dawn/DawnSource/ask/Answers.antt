@@ -28,12 +28,12 @@ placed j p j' p' e q d = subst (λ (x : ℕ). Differing 2 dawn x p') e (subst (�
 
 pub returns-in-0-eq0 : goal.returns-in-0-eq0
 returns-in-0-eq0 c =
-    let j : 0 ≡ c.args.level = omega arith in
-    let p : 0 ≡ c.args.block = omega arith in
-    placed 0 0 c.args.level c.args.block j p whole
+    let j : 0 ≡ c.args.block.level = omega arith in
+    let p : 0 ≡ c.args.block.number = omega arith in
+    placed 0 0 c.args.block.level c.args.block.number j p whole
 
 pub returns-in-1-eq1 : goal.returns-in-1-eq1
 returns-in-1-eq1 c =
-    let j : 1 ≡ c.args.level = omega arith in
-    let p : 1 ≡ c.args.block = omega arith in
-    placed 1 1 c.args.level c.args.block j p high_half
+    let j : 1 ≡ c.args.block.level = omega arith in
+    let p : 1 ≡ c.args.block.number = omega arith in
+    placed 1 1 c.args.block.level c.args.block.number j p high_half

@@ -15,6 +15,6 @@ both_ends = record {
 
 pub returns-in-0-eq0 : goal.returns-in-0-eq0
 returns-in-0-eq0 c =
-    let j : 0 ≡ c.args.level = omega arith in
-    let p : 0 ≡ c.args.block = omega arith in
-    subst (λ (x : ℕ). Differing 1 switch_at_1 x c.args.block) j (subst (λ (x : ℕ). Differing 1 switch_at_1 0 x) p both_ends)
+    let j : 0 ≡ c.args.block.level = omega arith in
+    let p : 0 ≡ c.args.block.number = omega arith in
+    subst (λ (x : ℕ). Differing 1 switch_at_1 x c.args.block.number) j (subst (λ (x : ℕ). Differing 1 switch_at_1 0 x) p both_ends)
