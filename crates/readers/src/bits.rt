@@ -11,6 +11,7 @@ use crate::lookup::{ask_codes, code_at};
 use files::accept::accepted_or_blank;
 use files::fields::{code_after, entry_count, first_address, pin_count};
 use files::format::Format;
+use sources::block::Block;
 use sources::source::{Answer, Source};
 
 impl<'a> BitFile<'a> {
@@ -66,11 +67,7 @@ impl<'a> Source for BitFile<'a> {
         pin_count(self.bytes, Format::Bits) as u32
     }
 
-    fn ask(&self, level: u32, block: u32) -> Answer<bool> {
-        match ask_codes(self.bytes, Format::Bits, level, block) {
-            Answer::All(code) => Answer::All(code == 1),
-            Answer::Mixed => Answer::Mixed,
-            Answer::Outside => Answer::Outside,
-        }
+    fn ask(&self, block: Block) -> Answer<bool> {
+        ask_codes(self.bytes, Format::Bits, block).map(|code| code == 1)
     }
 }

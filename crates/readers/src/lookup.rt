@@ -8,7 +8,7 @@ ghost use Rattle.readers.specs.Changes.{change_at, change_count};
 
 use files::fields::{code_after, entry_count, first_address, last_address, pin_count};
 use files::format::Format;
-use sources::block::is_block;
+use sources::block::Block;
 use sources::source::Answer;
 
 fn changes(bytes: &[u8], format: Format) -> u16
@@ -66,12 +66,12 @@ pub(crate) fn code_at(bytes: &[u8], format: Format, address: u32) -> u8
 }
 
 // The first and the last address of a block.
-fn span(pins: u32, level: u32, block: u32) -> (u32, u32)
-    requires { (Inside pins level block) × (pins ≤ 20) }
-    ensures { (result.0 ≡ block * 2 ^ (pins - level)) × (result.1 ≡ block * 2 ^ (pins - level) + (2 ^ (pins - level) - 1)) }
+fn span(pins: u32, block: Block) -> (u32, u32)
+    requires { (Inside pins block.level block.number) × (pins ≤ 20) }
+    ensures { (result.0 ≡ block.number * 2 ^ (pins - block.level)) × (result.1 ≡ block.number * 2 ^ (pins - block.level) + (2 ^ (pins - block.level) - 1)) }
 {
-    let size = 1 << (pins - level);
-    let first = block * size;
+    let size = 1 << (pins - block.level);
+    let first = block.number * size;
     (first, first + (size - 1))
 }
 
@@ -84,15 +84,15 @@ fn changes_by(bytes: &[u8], format: Format, i: u16, address: u32) -> bool
 }
 
 // What is true of a block, in codes.
-pub(crate) fn ask_codes(bytes: &[u8], format: Format, level: u32, block: u32) -> Answer<u8>
+pub(crate) fn ask_codes(bytes: &[u8], format: Format, block: Block) -> Answer<u8>
     requires { Obeys format bytes.now }
-    ensures { Says (pins_of format bytes.now) (meaning format bytes.now) level block result }
+    ensures { Says (pins_of format bytes.now) (meaning format bytes.now) block.level block.number result }
 {
     let pins = pin_count(bytes, format) as u32;
-    if !is_block(pins, level, block) {
+    if !block.is_in(pins) {
         return Answer::Outside;
     }
-    let (first, last) = span(pins, level, block);
+    let (first, last) = span(pins, block);
     let i = last_change(bytes, format, first);
     if changes_by(bytes, format, i, last) {
         Answer::Mixed

@@ -11,6 +11,7 @@ use crate::range_file::RangeFile;
 use files::accept::accepted_or_blank;
 use files::fields::{entry_count, first_address, last_address, pin_count};
 use files::format::Format;
+use sources::block::Block;
 use sources::source::{Answer, Source};
 
 impl<'a> RangeFile<'a> {
@@ -66,11 +67,7 @@ impl<'a> Source for RangeFile<'a> {
         pin_count(self.bytes, Format::Ranges) as u32
     }
 
-    fn ask(&self, level: u32, block: u32) -> Answer<bool> {
-        match ask_codes(self.bytes, Format::Ranges, level, block) {
-            Answer::All(code) => Answer::All(code == 1),
-            Answer::Mixed => Answer::Mixed,
-            Answer::Outside => Answer::Outside,
-        }
+    fn ask(&self, block: Block) -> Answer<bool> {
+        ask_codes(self.bytes, Format::Ranges, block).map(|code| code == 1)
     }
 }

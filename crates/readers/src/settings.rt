@@ -13,6 +13,7 @@ use ends::setting::Setting;
 use files::accept::accepted_or_blank;
 use files::fields::{code_after, entry_count, first_address, pin_count};
 use files::format::Format;
+use sources::block::Block;
 use sources::source::{Answer, Source};
 
 // The setting of a code below 128.
@@ -78,11 +79,7 @@ impl<'a> Source for SettingFile<'a> {
         pin_count(self.bytes, Format::Settings) as u32
     }
 
-    fn ask(&self, level: u32, block: u32) -> Answer<Setting> {
-        match ask_codes(self.bytes, Format::Settings, level, block) {
-            Answer::All(code) => Answer::All(setting(code)),
-            Answer::Mixed => Answer::Mixed,
-            Answer::Outside => Answer::Outside,
-        }
+    fn ask(&self, block: Block) -> Answer<Setting> {
+        ask_codes(self.bytes, Format::Settings, block).map(setting)
     }
 }

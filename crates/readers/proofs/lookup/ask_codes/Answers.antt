@@ -17,8 +17,8 @@ returns-then-changes_by c =
     let bs = c.args.bytes.now in
     let i = c.last_change-i.result in
     let more = by i (change_count k bs) (change_at k bs (i + 1)) c.span-first.result.1 (sym c.changes_by.ensures ∙ c.if-changes_by.true) in
-    block_differing k bs c.requires c.pin_count-pins.result c.args.level c.args.block c.span-first.result.0 c.span-first.result.1 i
-    c.pin_count-pins.ensures (c.is_block.ensures.0 c.if-not-is_block.false) c.span-first.ensures.0 c.span-first.ensures.1 c.last_change-i.ensures
+    block_differing k bs c.requires c.pin_count-pins.result c.args.block.level c.args.block.number c.span-first.result.0 c.span-first.result.1 i
+    c.pin_count-pins.ensures (c.is_in.ensures.0 c.if-not-is_in.false) c.span-first.ensures.0 c.span-first.ensures.1 c.last_change-i.ensures
     more.0 more.1
 
 pub returns-else-changes_by : goal.returns-else-changes_by
@@ -26,7 +26,7 @@ returns-else-changes_by c =
     let k = c.args.format in
     let bs = c.args.bytes.now in
     let i = c.last_change-i.result in
-    block_uniform k bs c.requires c.pin_count-pins.result c.args.level c.args.block c.span-first.result.0 c.span-first.result.1 i
-    c.pin_count-pins.ensures (c.is_block.ensures.0 c.if-not-is_block.false) c.span-first.ensures.0 c.span-first.ensures.1 c.last_change-i.ensures
+    block_uniform k bs c.requires c.pin_count-pins.result c.args.block.level c.args.block.number c.span-first.result.0 c.span-first.result.1 i
+    c.pin_count-pins.ensures (c.is_in.ensures.0 c.if-not-is_in.false) c.span-first.ensures.0 c.span-first.ensures.1 c.last_change-i.ensures
     c.code_after.result c.code_after.ensures
     (not_by i (change_count k bs) (change_at k bs (i + 1)) c.span-first.result.1 (sym c.changes_by.ensures ∙ c.if-changes_by.false))

@@ -15,7 +15,7 @@ shift : (n j : ℕ) → n ≤ 20 → 1 * 2 ^ (n - j) % 4294967296 ≡ 2 ^ (n - j
 shift n j few = one_shl (n - j) 32 (omega arith)
 
 pub overflow_mul-first : goal.overflow_mul-first
-overflow_mul-first c = simp (shift c.args.pins c.args.level c.requires.1) (omega (arith, ends_within c.args.pins c.args.level c.args.block c.requires.0 c.requires.1))
+overflow_mul-first c = simp (shift c.args.pins c.args.block.level c.requires.1) (omega (arith, ends_within c.args.pins c.args.block.level c.args.block.number c.requires.0 c.requires.1))
 
 pub overflow_add-result : goal.overflow_add-result
-overflow_add-result c = simp (shift c.args.pins c.args.level c.requires.1) (omega (arith, ends_within c.args.pins c.args.level c.args.block c.requires.0 c.requires.1))
+overflow_add-result c = simp (shift c.args.pins c.args.block.level c.requires.1) (omega (arith, ends_within c.args.pins c.args.block.level c.args.block.number c.requires.0 c.requires.1))
