@@ -9,7 +9,7 @@ use rows::after::after_row;
 use rows::calls::{Draw, Erase, Join, Strap};
 use rows::hand::Hand;
 use rows::row::Then;
-use trees::tree::{Half, Record};
+use trees::tree::Record;
 
 const WHOLE: Hand = Hand {
     nodes: 8,
@@ -54,17 +54,11 @@ pub fn lamps_settle() -> Result<u16, Fault>
             },
         },
     };
-    let blank = Record {
-        level: 0,
-        block: 0,
-        low: Half::Code(0),
-        high: Half::Code(0),
-    };
     let outcome = after_row(
         &row,
         &[0, 1],
         &mut [Node::blank(); 8],
-        &mut [blank; 4],
+        &mut [Record::blank(); 4],
         &mut [0; 120],
     )?;
     Ok(outcome.used)
