@@ -36,7 +36,7 @@ impl End for bool {
     ghost only = { Prim.search rules };
 
     fn encode(self) -> u16 {
-        if self { 1 } else { 0 }
+        u16::from(self)
     }
 
     fn decode(n: u16) -> Option<bool> {

@@ -14,16 +14,16 @@ pub trait Joining {
         ensures { result ≡ joined left right };
 }
 
-#[derive(Clone, Copy)]
+#[derive(Clone, Copy, PartialEq, Eq, Debug)]
 pub struct Both;
 
-#[derive(Clone, Copy)]
+#[derive(Clone, Copy, PartialEq, Eq, Debug)]
 pub struct Either;
 
-#[derive(Clone, Copy)]
+#[derive(Clone, Copy, PartialEq, Eq, Debug)]
 pub struct Differ;
 
-#[derive(Clone, Copy)]
+#[derive(Clone, Copy, PartialEq, Eq, Debug)]
 pub struct Overlay;
 
 impl Joining for Both {
@@ -62,13 +62,7 @@ impl Joining for Overlay {
     ghost joined = { overlaid };
 
     fn join(&self, left: Setting, right: Setting) -> Setting {
-        if left.chip == 0 && right.chip != 0 {
-            return right;
-        }
-        if left.chip != 0 && right.chip == 0 {
-            return left;
-        }
-        if left.waits < right.waits {
+        if (left.chip != 0, left.waits) < (right.chip != 0, right.waits) {
             right
         } else {
             left

@@ -59,9 +59,17 @@ impl Ground {
     pub fn layer(self) -> Layer
         ensures { result ≡ layer_of self }
     {
-        match self.number() {
-            1..=7 => Layer::File,
-            8..=11 => Layer::Entry,
+        match self {
+            Ground::TooShort
+            | Ground::Mark
+            | Ground::Version
+            | Ground::Kind
+            | Ground::Pins
+            | Ground::Count
+            | Ground::Trailing => Layer::File,
+            Ground::AddressAbove | Ground::AddressOrder | Ground::NoCode | Ground::SameEnd => {
+                Layer::Entry
+            }
             _ => Layer::Plan,
         }
     }

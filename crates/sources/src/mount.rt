@@ -36,13 +36,8 @@ fn with_fill<E: End>(answer: Answer<E>, fill: E) -> Answer<E>
     ensures { result ≡ with_fill E.End.code answer fill }
 {
     match answer {
-        Answer::All(end) => {
-            if end.encode() == fill.encode() {
-                Answer::All(end)
-            } else {
-                Answer::Mixed
-            }
-        }
+        Answer::All(end) if end.encode() != fill.encode() => Answer::Mixed,
+        Answer::All(end) => Answer::All(end),
         Answer::Mixed => Answer::Mixed,
         Answer::Outside => Answer::Outside,
     }
