@@ -158,10 +158,10 @@ module _ (t : List Record) (h : Half) (k address : ℕ) where
     pub code_at_past : length t ≤ i → CodeBelow t h k address r
     code_at_past z n c j p f s = absurd (omega (arith, index_in n c t j p k h f s i q))
 
-    pub code_at_half : (b : Bool) (g : Half) → 0 < k → b ≡ bit address (k - 1) → g ≡ side (record_at t i) b → CodeBelow t g (k - 1) address r → CodeBelow t h k address r
-    code_at_half b g pos be ge below n c j p f s =
-        let e : k - 1 + 1 ≡ k = omega arith in
-        below n c (j + 1) (sub_block p b) (half_codes f (k - 1) b) (subst (λ (x : Half). Stands n c t (j + 1) (sub_block p b) (k - 1) x (half_codes f (k - 1) b)) (sym ge) (down n c t j p k h f s i q (k - 1) (sym e) b)) ∙ ap (λ (x : Bool). f (put (k - 1) x (address % 2 ^ (k - 1)))) be ∙ ap f (sym (put_whole (k - 1) address)) ∙ ap (λ x. f (address % 2 ^ x)) e
+    pub code_at_half : (s : Record) (d : ℕ) (b : Bool) (g : Half) → s ≡ record_at t i → (1 ≤ k) × (d ≡ k - 1) → b ≡ bit address d → g ≡ side s b → CodeBelow t g d address r → CodeBelow t h k address r
+    code_at_half s d b g se de be ge below n c j p f st =
+        let e : d + 1 ≡ k = omega (arith, de) in
+        below n c (j + 1) (sub_block p b) (half_codes f d b) (subst (λ (x : Half). Stands n c t (j + 1) (sub_block p b) d x (half_codes f d b)) (sym (ge ∙ ap (λ (x : Record). side x b) se)) (down n c t j p k h f st i q d (sym e) b)) ∙ ap (λ (x : Bool). f (put d x (address % 2 ^ d))) be ∙ ap f (sym (put_whole d address)) ∙ ap (λ x. f (address % 2 ^ x)) e
 
 module _ (t : List Record) (h : Half) (k mask value : ℕ) where
   pub left_at_leaf : (e : ℕ) → h ≡ Code e → LeftBelow t h k mask value (Some e)
@@ -177,34 +177,37 @@ module _ (t : List Record) (h : Half) (k mask value : ℕ) where
     pub left_at_mixed : k < 32 → mask % ((1 * 2 ^ k) % 2 ^ 32) ≡ 0 → LeftBelow t h k mask value None
     left_at_mixed l z n c j p f s = mixed_left n c t j p k h f s i q mask value (ap (λ x. mask % x) (sym (one_shl k 32 l)) ∙ z)
 
-    module _ (pos : 0 < k) where
-      sub : (b : Bool) (r : Option ℕ) → LeftBelow t (side (record_at t i) b) (k - 1) mask value r → (n : ℕ) (c : ℕ → ℕ) (j p : ℕ) (f : ℕ → ℕ) → Stands n c t j p k h f → Left (k - 1) (half_codes f (k - 1) b) mask value r
-      sub b r below n c j p f s = below n c (j + 1) (sub_block p b) (half_codes f (k - 1) b) (down n c t j p k h f s i q (k - 1) (omega arith) b)
+    module _ (s : Record) (d : ℕ) (se : s ≡ record_at t i) (de : (1 ≤ k) × (d ≡ k - 1)) where
+      open_pins : d + 1 ≡ k
+      open_pins = omega (arith, de)
 
-      whole : (r : Option ℕ) (f : ℕ → ℕ) → Left (k - 1 + 1) f mask value r → Left k f mask value r
-      whole r f l = let e : k - 1 + 1 ≡ k = omega arith in let P : ℕ → Type 0 = λ x. Left x f mask value r in subst P e l
+      sub : (b : Bool) (r : Option ℕ) → LeftBelow t (side s b) d mask value r → (n : ℕ) (c : ℕ → ℕ) (j p : ℕ) (f : ℕ → ℕ) → Stands n c t j p k h f → Left d (half_codes f d b) mask value r
+      sub b r below n c j p f st = subst (λ (x : Record). LeftBelow t (side x b) d mask value r) se below n c (j + 1) (sub_block p b) (half_codes f d b) (down n c t j p k h f st i q d (sym open_pins) b)
 
-      pub left_at_fixed : (v : Bool) (g : Half) (r : Option ℕ) → Some v ≡ fixed mask value (k - 1) → g ≡ side (record_at t i) v → LeftBelow t g (k - 1) mask value r → LeftBelow t h k mask value r
-      left_at_fixed v g r is ge below n c j p f s =
-          whole r f (fixed_up f (k - 1) mask value v (pin_top (k - 1) mask ∙ (some_fixed mask value (k - 1) v is).0) ((some_fixed mask value (k - 1) v is).1 ∙ sym (pin_top (k - 1) value)) r (sub v r (subst (λ (x : Half). LeftBelow t x (k - 1) mask value r) ge below) n c j p f s))
+      whole : (r : Option ℕ) (f : ℕ → ℕ) → Left (d + 1) f mask value r → Left k f mask value r
+      whole r f l = let P : ℕ → Type 0 = λ x. Left x f mask value r in subst P open_pins l
 
-      module _ (is : None ≡ fixed mask value (k - 1)) where
-        free : pin (k - 1 + 1) mask 0 ≡ false
-        free = pin_top (k - 1) mask ∙ none_fixed mask value (k - 1) is
+      pub left_at_fixed : (v : Bool) (g : Half) (r : Option ℕ) → Some v ≡ fixed mask value d → g ≡ side s v → LeftBelow t g d mask value r → LeftBelow t h k mask value r
+      left_at_fixed v g r is ge below n c j p f st =
+          whole r f (fixed_up f d mask value v (pin_top d mask ∙ (some_fixed mask value d v is).0) ((some_fixed mask value d v is).1 ∙ sym (pin_top d value)) r (sub v r (subst (λ (x : Half). LeftBelow t x d mask value r) ge below) n c j p f st))
 
-        pub left_at_low_two : LeftBelow t (record_at t i).low (k - 1) mask value None → LeftBelow t h k mask value None
-        left_at_low_two lo n c j p f s = whole None f (free_two f (k - 1) mask value free false (sub false None lo n c j p f s))
+      module _ (is : None ≡ fixed mask value d) where
+        free : pin (d + 1) mask 0 ≡ false
+        free = pin_top d mask ∙ none_fixed mask value d is
 
-        pub left_at_high_two : LeftBelow t (record_at t i).high (k - 1) mask value None → LeftBelow t h k mask value None
-        left_at_high_two hi n c j p f s = whole None f (free_two f (k - 1) mask value free true (sub true None hi n c j p f s))
+        pub left_at_low_two : LeftBelow t s.low d mask value None → LeftBelow t h k mask value None
+        left_at_low_two lo n c j p f st = whole None f (free_two f d mask value free false (sub false None lo n c j p f st))
 
-        pub left_at_both : (e e' : ℕ) (r : Option ℕ) → r ≡ agreed e e' → LeftBelow t (record_at t i).low (k - 1) mask value (Some e) → LeftBelow t (record_at t i).high (k - 1) mask value (Some e') → LeftBelow t h k mask value r
-        left_at_both e e' r one lo hi n c j p f s =
-            let a = sub false (Some e) lo n c j p f s in
-            let b = sub true (Some e') hi n c j p f s in
-            whole r f (subst (Left (k - 1 + 1) f mask value) (sym one) (elim (eqb_tells e e') [
-              | inl w ↦ subst (Left (k - 1 + 1) f mask value) (sym (cond-true (eqb e e') (Some e) None w.0)) (free_one f (k - 1) mask value free e e' a b w.1)
-              | inr w ↦ subst (Left (k - 1 + 1) f mask value) (sym (cond-false (eqb e e') (Some e) None w.0)) (free_differ f (k - 1) mask value free e e' a b w.1)
+        pub left_at_high_two : LeftBelow t s.high d mask value None → LeftBelow t h k mask value None
+        left_at_high_two hi n c j p f st = whole None f (free_two f d mask value free true (sub true None hi n c j p f st))
+
+        pub left_at_both : (e e' : ℕ) (r : Option ℕ) → r ≡ agreed e e' → LeftBelow t s.low d mask value (Some e) → LeftBelow t s.high d mask value (Some e') → LeftBelow t h k mask value r
+        left_at_both e e' r one lo hi n c j p f st =
+            let a = sub false (Some e) lo n c j p f st in
+            let b = sub true (Some e') hi n c j p f st in
+            whole r f (subst (Left (d + 1) f mask value) (sym one) (elim (eqb_tells e e') [
+              | inl w ↦ subst (Left (d + 1) f mask value) (sym (cond-true (eqb e e') (Some e) None w.0)) (free_one f d mask value free e e' a b w.1)
+              | inr w ↦ subst (Left (d + 1) f mask value) (sym (cond-false (eqb e e') (Some e) None w.0)) (free_differ f d mask value free e e' a b w.1)
             ]))
 
 -- the root stands for block 0 of level 0

@@ -21,11 +21,7 @@ fn fixed(mask: u32, value: u32, place: u32) -> Option<bool>
     requires { place < 32 }
     ensures { result ≡ fixed mask value place }
 {
-    if bit(mask, place) {
-        Some(bit(value, place))
-    } else {
-        None
-    }
+    bit(mask, place).then_some(bit(value, place))
 }
 
 impl Record {
@@ -41,7 +37,7 @@ impl Record {
 fn agreed(low: u16, high: u16) -> Option<u16>
     ensures { result ≡ agreed low high }
 {
-    if low == high { Some(low) } else { None }
+    (low == high).then_some(low)
 }
 
 // The code at an address of the block that `half` stands for. The block leaves open the last `left` pins.
@@ -52,14 +48,12 @@ fn code_below(table: &[Record], half: Half, left: u32, address: u32) -> u16
     match half {
         Half::Code(code) => code,
         Half::Split(i) => {
-            if left == 0 {
+            let Some(record) = table.get(i) else {
                 return 0;
-            }
-            if i >= table.len() {
+            };
+            let Some(below) = left.checked_sub(1) else {
                 return 0;
-            }
-            let record = table[i];
-            let below = left - 1;
+            };
             code_below(table, record.side(bit(address, below)), below, address)
         }
     }
@@ -73,27 +67,17 @@ fn code_left_below(table: &[Record], half: Half, left: u32, mask: u32, value: u3
     match half {
         Half::Code(code) => Some(code),
         Half::Split(i) => {
-            if left == 0 {
-                return None;
-            }
-            if i >= table.len() {
-                return None;
-            }
+            let record = *table.get(i)?;
+            let below = left.checked_sub(1)?;
             // The block is mixed: with none of its pins fixed there is no need to walk it.
             if mask % (1 << left) == 0 {
                 return None;
             }
-            let record = table[i];
-            let below = left - 1;
             if let Some(high) = fixed(mask, value, below) {
                 return code_left_below(table, record.side(high), below, mask, value);
             }
-            let Some(low) = code_left_below(table, record.low, below, mask, value) else {
-                return None;
-            };
-            let Some(high) = code_left_below(table, record.high, below, mask, value) else {
-                return None;
-            };
+            let low = code_left_below(table, record.low, below, mask, value)?;
+            let high = code_left_below(table, record.high, below, mask, value)?;
             agreed(low, high)
         }
     }
