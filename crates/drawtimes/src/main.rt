@@ -17,10 +17,7 @@ const RECORDS: usize = 20_480;
 // Where switch `i` of `count` stands, of those that divide the addresses evenly.
 fn switch_at(addresses: u32, count: u32, i: u32) -> u32 {
     let along = i.wrapping_add(1).wrapping_mul(addresses);
-    match along.checked_div(count.wrapping_add(1)) {
-        Some(at) => at,
-        None => 0,
-    }
+    along.checked_div(count.wrapping_add(1)).unwrap_or(0)
 }
 
 fn spread(heap: Global, addresses: u32, count: u32) -> Result<Vec<u32>, AllocError> {
@@ -129,11 +126,7 @@ fn print_table(rt: &HostRuntime) -> io::Result<()> {
 
 fn is_asked(rt: &HostRuntime) -> io::Result<bool> {
     let mut words = env::args(rt)?;
-    words.next();
-    match words.next() {
-        Some(word) => Ok(word.as_str() == "run"),
-        None => Ok(false),
-    }
+    Ok(words.nth(1).is_some_and(|word| word.as_str() == "run"))
 }
 
 fn main(rt: HostRuntime) -> io::Result<()> {

@@ -18,10 +18,7 @@ const ADDRESS_ORDER: [u8; 20] = [
 fn address_order(pins: usize) -> &'static [u8]
     ensures { pins ≤ 20 → result.now ≡ address_order pins }
 {
-    if pins > 20 {
-        return &ADDRESS_ORDER;
-    }
-    &ADDRESS_ORDER[0..pins]
+    ADDRESS_ORDER.get(0..pins).unwrap_or(&ADDRESS_ORDER)
 }
 
 // The nodes of a map on line 0 of a new plan in address order.
