@@ -21,20 +21,18 @@ fn switch_at(addresses: u32, count: u32, i: u32) -> u32 {
 }
 
 fn spread(heap: Global, addresses: u32, count: u32) -> Result<Vec<u32>, AllocError> {
-    let mut switches = Vec::new(heap);
-    for i in 0..count {
-        switches.push(switch_at(addresses, count, i))?;
-    }
-    Ok(switches)
+    (0..count)
+        .map(|i| switch_at(addresses, count, i))
+        .collect(heap)
 }
 
 // The pins in address order, or from the last to the first.
 fn order_of(heap: Global, pins: u8, reversed: bool) -> Result<Vec<u8>, AllocError> {
-    let mut order = Vec::new(heap);
-    for i in 0..pins {
-        order.push(if reversed { pins - 1 - i } else { i })?;
+    if reversed {
+        (0..pins).rev().collect(heap)
+    } else {
+        (0..pins).collect(heap)
     }
-    Ok(order)
 }
 
 fn work_for(heap: Global, pins: u8) -> Result<Vec<u32>, AllocError> {
