@@ -153,9 +153,6 @@ module _ (n : ℕ) (c : ℕ → ℕ) (t : List Record) (i len : ℕ) (d : Drafte
       let P : Block → Type 0 = λ b. b.1 < 2 ^ b.0 in
       subst P (sym key) (All-get_or (λ (b : Block). (b.0 < n) × (b.1 < 2 ^ b.0)) (mixed_blocks n c) i (0, 0) in_tree (listed_there n c)).1
 
-  pub index_in : (u : List Record) → length u ≡ length t → i < length u
-  index_in u same = omega (arith, d.filed.within, same)
-
   block_small : n ≤ 20 → block < 2 ^ 20
   block_small few = let h : level < 20 = omega (arith, level_below) in let l = pow-lt h in omega (arith, l, block_below)
 
@@ -236,9 +233,6 @@ advanced_on n c t u v len m q done again a b = record {
 
 pub advanced_none : (n : ℕ) (c : ℕ → ℕ) (t : List Record) (done len : ℕ) → Drafted n c t done len → Advanced n c t len t done len
 advanced_none n c t done len d = record { drafted = d; more = omega arith; untouched = λ k w. refl }
-
-pub refused_on : (n : ℕ) (c : ℕ → ℕ) (t u : List Record) (fault : Fault) → length u ≡ length t → Refused n c u fault → Refused n c t fault
-refused_on n c t u fault same r = record { told = r.told ∙ ap (at TreeTable) same; over = omega (arith, r.over, same) }
 
 -- the root
 module _ (n : ℕ) (c : ℕ → ℕ) (t : List Record) where

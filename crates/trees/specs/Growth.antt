@@ -3,6 +3,7 @@ use Rattle.std.specs.Prelude.{◌≡◌, ℕ, ◌+◌, ◌*◌, ◌<◌, ◌≤�
 use Rattle.faults.specs.declared.fault.Fault.{Fault}
 use Rattle.faults.specs.declared.fault.Ground.TheVariants.{TreeTable}
 use Rattle.faults.specs.Refusals.{at}
+use Rattle.trees.specs.declared.build.Draft.{Draft}
 use Rattle.trees.specs.declared.tree.Half.{Half}
 use Rattle.trees.specs.declared.tree.Half.TheVariants.{Code, Split}
 use Rattle.trees.specs.declared.tree.Record.{Record}
@@ -65,9 +66,25 @@ pub record Full (n : ℕ) (c : ℕ → ℕ) (j p : ℕ) (table : List Record) (l
   pub no_room : length table ≤ len
 
 -- the outcome for block p of level j
-abbrev pub Grows : (n : ℕ) (c : ℕ → ℕ) (j p : ℕ) (before : List Record) (len : ℕ) (after : List Record) → Result (Half × ℕ) Fault → Type 0
-Grows n c j p before len after (Ok r) = Grown n c j p before len r.0 after r.1
-Grows n c j p before len after (Err fault) = Full n c j p before len fault
+abbrev pub Grows : (n : ℕ) (c : ℕ → ℕ) (j p : ℕ) (before : List Record) (len : ℕ) (after : List Record) (m : ℕ) → Result Half Fault → Type 0
+Grows n c j p before len after m (Ok h) = Grown n c j p before len h after m
+Grows n c j p before len after m (Err fault) = Full n c j p before len fault
+
+-- the draft has the same lent table, as long as before
+abbrev pub Keeps : (before after : Draft) → Type 0
+Keeps before after = (after.table.ghost_name ≡ before.table.ghost_name) × (length after.table.now ≡ length before.table.now)
+
+-- a table of len records got one for block p of level j
+pub record Put (j p : ℕ) (before : List Record) (len : ℕ) (h : Half) (after : List Record) (m : ℕ) : Type 0 where
+  pub half_is : h ≡ Split len
+  pub more_len : m ≡ len + 1
+  pub room : len < length before
+  pub put : after ≡ slice_set before len (fresh j p)
+
+-- or has no room for it
+abbrev pub Opens : (j p : ℕ) (before : List Record) (len : ℕ) (after : List Record) (m : ℕ) → Result Half Fault → Type 0
+Opens j p before len after m (Ok h) = Put j p before len h after m
+Opens j p before len after m (Err fault) = (fault ≡ at TreeTable (length before)) × (length before ≤ len) × (after ≡ before)
 
 -- the table has the first len blocks, of which the first done have their halves
 pub record Filed (n : ℕ) (c : ℕ → ℕ) (t : List Record) (done len : ℕ) : Type 0 where
@@ -93,6 +110,6 @@ pub record Advanced (n : ℕ) (c : ℕ → ℕ) (before : List Record) (len : �
   pub untouched : Untouched before after m
 
 -- the outcome of dividing up to done
-abbrev pub Advances : (n : ℕ) (c : ℕ → ℕ) (before : List Record) (len : ℕ) (after : List Record) (done : ℕ) → Result ℕ Fault → Type 0
-Advances n c before len after done (Ok m) = Advanced n c before len after done m
-Advances n c before len after done (Err fault) = Refused n c before fault
+abbrev pub Advances : (n : ℕ) (c : ℕ → ℕ) (before : List Record) (len : ℕ) (after : List Record) (done m : ℕ) → Result (Unit {0}) Fault → Type 0
+Advances n c before len after done m (Ok u) = Advanced n c before len after done m
+Advances n c before len after done m (Err fault) = Refused n c before fault

@@ -1,6 +1,6 @@
 ghost use Rattle.std.specs.Prelude.{◌≡◌, ◌+◌, ◌<◌, ◌≤◌, length};
 ghost use Rattle.sources.specs.Blocks.{Inside};
-ghost use Rattle.trees.specs.Growth.{fresh, with_halves, Grows, Drafted, Advances};
+ghost use Rattle.trees.specs.Growth.{fresh, with_halves, Keeps, Opens, Grows, Drafted, Advances};
 ghost use Rattle.trees.specs.Mixed.{codes, block_code};
 ghost use Rattle.trees.specs.Records.{Builds};
 
@@ -42,32 +42,48 @@ fn code_of<S: Source>(source: &S, block: Block) -> Option<u16>
     }
 }
 
-// What stands for a block, with a new record at `len` if the block is mixed; and the number of records then.
-fn grow<S: Source>(
-    source: &S,
-    block: Block,
-    table: &mut [Record],
+// The records of a tree while it grows: the first `len` of a lent table.
+#[derive(Drop)]
+struct Draft<'a> {
+    table: &'a mut [Record],
     len: usize,
-) -> Result<(Half, usize), Fault>
-    requires { (Inside (S.Source.width source.now) block.level block.number) × (len ≤ length table.old) }
-    ensures { Grows (S.Source.width source.now) (codes S.Of.End.code (S.Source.selection source.now)) block.level block.number table.old len table.new result }
-{
-    let Some(code) = code_of(source, block) else {
-        if len >= table.len() {
-            return Err(Ground::TreeTable.at(table.len()));
+}
+
+impl<'a> Draft<'a> {
+    // A new record for a block.
+    fn open(&mut self, block: Block) -> Result<Half, Fault>
+        ensures keeps { Keeps self.old self.new }
+        ensures opened { Opens block.level block.number self.old.table.now self.old.len self.new.table.now self.new.len result }
+    {
+        if self.len >= self.table.len() {
+            return Err(Ground::TreeTable.at(self.table.len()));
         }
-        table[len] = Record::undivided(block);
-        return Ok((Half::Split(len), len + 1));
-    };
-    Ok((Half::Code(code), len))
+        let half = Half::Split(self.len);
+        self.table[self.len] = Record::undivided(block);
+        self.len += 1;
+        Ok(half)
+    }
+}
+
+// What stands for a block, with a new record if the block is mixed.
+fn grow<S: Source>(source: &S, block: Block, draft: &mut Draft) -> Result<Half, Fault>
+    requires { (Inside (S.Source.width source.now) block.level block.number) × (draft.old.len ≤ length draft.old.table.now) }
+    ensures keeps { Keeps draft.old draft.new }
+    ensures grown { Grows (S.Source.width source.now) (codes S.Of.End.code (S.Source.selection source.now)) block.level block.number draft.old.table.now draft.old.len draft.new.table.now draft.new.len result }
+{
+    match code_of(source, block) {
+        Some(code) => Ok(Half::Code(code)),
+        None => draft.open(block),
+    }
 }
 
 // Gives the record `i` its two halves.
-fn divide<S: Source>(source: &S, table: &mut [Record], i: usize, len: usize) -> Result<usize, Fault>
-    requires { (Drafted (S.Source.width source.now) (codes S.Of.End.code (S.Source.selection source.now)) table.old i len) × (i < len) }
-    ensures { Advances (S.Source.width source.now) (codes S.Of.End.code (S.Source.selection source.now)) table.old len table.new (i + 1) result }
+fn divide<S: Source>(source: &S, draft: &mut Draft, i: usize) -> Result<(), Fault>
+    requires { (Drafted (S.Source.width source.now) (codes S.Of.End.code (S.Source.selection source.now)) draft.old.table.now i draft.old.len) × (i < draft.old.len) }
+    ensures keeps { Keeps draft.old draft.new }
+    ensures divided { Advances (S.Source.width source.now) (codes S.Of.End.code (S.Source.selection source.now)) draft.old.table.now draft.old.len draft.new.table.now (i + 1) draft.new.len result }
 {
-    let record = table[i];
+    let record = draft.table[i];
     let low = Block {
         level: record.block.level + 1,
         number: 2 * record.block.number,
@@ -76,27 +92,22 @@ fn divide<S: Source>(source: &S, table: &mut [Record], i: usize, len: usize) -> 
         number: low.number + 1,
         ..low
     };
-    let (low, len) = grow(source, low, table, len)?;
-    let (high, len) = grow(source, high, table, len)?;
-    table[i] = record.divided(low, high);
-    Ok(len)
+    let low = grow(source, low, draft)?;
+    let high = grow(source, high, draft)?;
+    draft.table[i] = record.divided(low, high);
+    Ok(())
 }
 
-// Gives each of the records `from` to `to` its two halves.
-fn divide_row<S: Source>(
-    source: &S,
-    table: &mut [Record],
-    from: usize,
-    to: usize,
-) -> Result<usize, Fault>
-    requires { Drafted (S.Source.width source.now) (codes S.Of.End.code (S.Source.selection source.now)) table.old from to }
-    ensures { Advances (S.Source.width source.now) (codes S.Of.End.code (S.Source.selection source.now)) table.old to table.new to result }
+// Gives each of the records from `done` on its two halves.
+fn divide_row<S: Source>(source: &S, draft: &mut Draft, done: usize) -> Result<(), Fault>
+    requires { Drafted (S.Source.width source.now) (codes S.Of.End.code (S.Source.selection source.now)) draft.old.table.now done draft.old.len }
+    ensures keeps { Keeps draft.old draft.new }
+    ensures divided { Advances (S.Source.width source.now) (codes S.Of.End.code (S.Source.selection source.now)) draft.old.table.now draft.old.len draft.new.table.now draft.old.len draft.new.len result }
 {
-    let mut len = to;
-    for i in from..to {
-        len = divide(source, table, i, len)?;
+    for i in done..draft.len {
+        divide(source, draft, i)?;
     }
-    Ok(len)
+    Ok(())
 }
 
 // Writes the contracted tree of a source into the table, level by level.
@@ -104,13 +115,17 @@ pub fn build<S: Source>(source: &S, table: &mut [Record]) -> Result<Tree, Fault>
     ensures { Builds (S.Source.width source.now) (codes S.Of.End.code (S.Source.selection source.now)) table.old table.new result }
 {
     let pins = source.pins();
-    let (root, count) = grow(source, Block::whole(), table, 0)?;
-    let mut len = count;
+    let mut draft = Draft { table, len: 0 };
+    let root = grow(source, Block::whole(), &mut draft)?;
     let mut done = 0;
     for level in 0..pins {
-        let row = len;
-        len = divide_row(source, table, done, row)?;
+        let row = draft.len;
+        divide_row(source, &mut draft, done)?;
         done = row;
     }
-    Ok(Tree { pins, root, len })
+    Ok(Tree {
+        pins,
+        root,
+        len: draft.len,
+    })
 }
