@@ -104,6 +104,7 @@ fn divide_row<S: Source>(source: &S, draft: &mut Draft, done: usize) -> Result<(
     ensures keeps { Keeps draft.old draft.new }
     ensures divided { Advances (S.Source.width source.now) (codes S.Of.End.code (S.Source.selection source.now)) draft.old.table.now draft.old.len draft.new.table.now draft.old.len draft.new.len result }
 {
+    // By index: the table grows behind the records that are gone through.
     for i in done..draft.len {
         divide(source, draft, i)?;
     }
