@@ -5,3 +5,4 @@ pub mod fields;
 pub mod format;
 mod judge;
 pub mod laws;
+pub mod layout;
