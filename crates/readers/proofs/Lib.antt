@@ -1,4 +1,4 @@
 pub mod Rising
 pub mod Stepping
 pub mod Blocks
-pub mod Chips
+pub mod Ends

@@ -1,3 +1,4 @@
 pub mod Changes
 pub mod Selections
 pub mod Entries
+pub mod Apart

@@ -1,14 +1,38 @@
-ghost use Rattle.std.specs.Prelude.{◌≡◌, ◌≤◌, true};
-ghost use Rattle.faults.specs.Refusals.{is_none};
-ghost use Rattle.files.specs.Formats.{pins_of};
-ghost use Rattle.files.specs.Verdict.{fault};
-ghost use Rattle.files.specs.declared.format.Format.TheVariants.{Bits};
+ghost use Rattle.std.specs.Prelude.{◌≡◌, nat_eq, refl};
+ghost use Rattle.std.proofs.Common.{rules};
+ghost use Rattle.readers.specs.Selections.{bit_at};
+ghost use Rattle.files.specs.declared.format.Format.TheVariants as formats;
 
-// A switch file of bits that was accepted, in the caller's own bytes.
+use crate::kind::{Kind, Switched};
+use crate::map_file::MapFile;
+use files::format::Format;
+
 #[derive(Clone, Copy)]
-pub struct BitFile<'a> {
-    pub(crate) bytes: &'a [u8],
-    ghost accepted: { is_none (fault Bits bytes.now) ≡ true },
-    ghost some: { 1 ≤ pins_of Bits bytes.now },
-    ghost few: { pins_of Bits bytes.now ≤ 20 },
+pub struct Bits;
+
+impl Kind for Bits {
+    type Of = bool;
+
+    ghost format = { formats.Bits };
+
+    ghost end = { λ c. nat_eq c 1 };
+
+    ghost selection = { bit_at };
+
+    fn format() -> Format {
+        Format::Bits
+    }
+
+    fn end(code: u8) -> bool {
+        code == 1
+    }
+
+    ghost means = { λ bs a. refl };
+
+    ghost apart = { Prim.search rules };
 }
+
+impl Switched for Bits {}
+
+// A switch file of bits that was accepted.
+pub type BitFile<'a> = MapFile<'a, Bits>;

@@ -1,10 +1,10 @@
 #![tactic(auto)]
 // Readers of accepted map files, in the caller's own bytes; each is a source.
 pub mod bit_file;
-pub mod bits;
 pub mod entry;
+pub mod kind;
 mod lookup;
+pub mod map_file;
 pub mod range_file;
-pub mod ranges;
+pub mod reader;
 pub mod setting_file;
-pub mod settings;

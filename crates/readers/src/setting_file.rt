@@ -1,14 +1,43 @@
-ghost use Rattle.std.specs.Prelude.{◌≡◌, ◌≤◌, true};
-ghost use Rattle.faults.specs.Refusals.{is_none};
-ghost use Rattle.files.specs.Formats.{pins_of};
-ghost use Rattle.files.specs.Verdict.{fault};
-ghost use Rattle.files.specs.declared.format.Format.TheVariants.{Settings};
+ghost use Rattle.std.specs.Prelude.{◌≡◌, refl};
+ghost use Rattle.ends.specs.Codes.{setting_at};
+ghost use Rattle.readers.specs.Selections.{chip_at};
+ghost use Rattle.readers.specs.Apart.{settings_apart};
+ghost use Rattle.files.specs.declared.format.Format.TheVariants as formats;
 
-// A switch file of chip settings that was accepted, in the caller's own bytes.
+use crate::kind::{Kind, Switched};
+use crate::map_file::MapFile;
+use ends::setting::Setting;
+use files::format::Format;
+
 #[derive(Clone, Copy)]
-pub struct SettingFile<'a> {
-    pub(crate) bytes: &'a [u8],
-    ghost accepted: { is_none (fault Settings bytes.now) ≡ true },
-    ghost some: { 1 ≤ pins_of Settings bytes.now },
-    ghost few: { pins_of Settings bytes.now ≤ 20 },
+pub struct Settings;
+
+impl Kind for Settings {
+    type Of = Setting;
+
+    ghost format = { formats.Settings };
+
+    ghost end = { setting_at };
+
+    ghost selection = { chip_at };
+
+    fn format() -> Format {
+        Format::Settings
+    }
+
+    fn end(code: u8) -> Setting {
+        Setting {
+            chip: code / 8 % 16,
+            waits: code % 8,
+        }
+    }
+
+    ghost means = { λ bs a. refl };
+
+    ghost apart = { settings_apart };
 }
+
+impl Switched for Settings {}
+
+// A switch file of chip settings that was accepted.
+pub type SettingFile<'a> = MapFile<'a, Settings>;

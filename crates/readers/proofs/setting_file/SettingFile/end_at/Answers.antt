@@ -1,6 +1,0 @@
-use Rattle.files.specs.declared.format.Format.TheVariants.{Settings}
-use Rattle.files.proofs.Obeying.{reader_obeys}
-use Rattle.readers.proofs.setting_file.SettingFile.end_at.Goals as goal
-
-pub code_at-requires : goal.code_at-requires
-code_at-requires c = reader_obeys Settings c.args.self.now.bytes.now c.args.self.now.accepted
