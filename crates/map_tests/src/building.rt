@@ -14,7 +14,7 @@ pub fn verdict(heap: Global, bytes: &[u8], format: Format) -> Result<String, All
 
 // A switch file of bits, first end 0, with switches at these addresses.
 pub fn bit_map(heap: Global, pins: u8, switches: &[u32]) -> Result<Vec<u8>, AllocError> {
-    let mut file = header(heap, 0, pins, switches.len())?;
+    let mut file = header(heap, 0, pins, 0, switches.len())?;
     for address in switches {
         push_address(&mut file, *address)?;
     }
@@ -28,10 +28,7 @@ pub fn setting_map(
     first: u8,
     switches: &[(u32, u8)],
 ) -> Result<Vec<u8>, AllocError> {
-    let mut file = header(heap, 1, pins, switches.len())?;
-    if let Some(byte) = file.get_mut(7) {
-        *byte = first;
-    }
+    let mut file = header(heap, 1, pins, first, switches.len())?;
     for (address, code) in switches {
         push_address(&mut file, *address)?;
         file.push(*code)?;
@@ -52,23 +49,26 @@ pub fn range_map(heap: Global, pins: u8, ranges: &[(u32, u32)]) -> Result<Vec<u8
     Ok(file)
 }
 
-fn header(heap: Global, kind: u8, pins: u8, count: usize) -> Result<Vec<u8>, AllocError> {
+fn header(
+    heap: Global,
+    kind: u8,
+    pins: u8,
+    first: u8,
+    count: usize,
+) -> Result<Vec<u8>, AllocError> {
     let mut file = Vec::new(heap);
     file.extend_from_slice(b"SWL")?;
-    file.extend_from_slice(&[0, 1, kind, pins, 0])?;
+    file.extend_from_slice(&[0, 1, kind, pins, first])?;
     push_count(&mut file, count)?;
     Ok(file)
 }
 
+// The lowest two bytes, the highest first.
 fn push_count(file: &mut Vec<u8>, count: usize) -> Result<(), AllocError> {
-    file.push((count / 256 % 256) as u8)?;
-    file.push((count % 256) as u8)?;
-    Ok(())
+    file.extend_from_slice(&count.to_be_bytes()[6..])
 }
 
+// The lowest three bytes, the highest first.
 fn push_address(file: &mut Vec<u8>, address: u32) -> Result<(), AllocError> {
-    file.push((address / 65536 % 256) as u8)?;
-    file.push((address / 256 % 256) as u8)?;
-    file.push((address % 256) as u8)?;
-    Ok(())
+    file.extend_from_slice(&address.to_be_bytes()[1..])
 }

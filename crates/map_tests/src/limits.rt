@@ -1,67 +1,40 @@
 // The limits of the formats: what just passes, and what is just refused.
-use crate::building::{bit_map, range_map, setting_map, verdict};
+use crate::building::{bit_map, range_map, setting_map};
+use crate::checking::check_verdict;
 use files::format::Format;
 use std::alloc::{AllocError, Global};
-use std::process::Abort;
 use std::test::Fail;
-
-fn bits_told(
-    rt: &impl Abort,
-    heap: Global,
-    pins: u8,
-    switches: &[u32],
-    told: &str,
-) -> Result<(), Fail> {
-    let file = bit_map(heap, pins, switches)?;
-    assert_eq!(rt; verdict(heap, &file, Format::Bits)?.as_str(), told);
-    Ok(())
-}
-
-fn settings_told(
-    rt: &impl Abort,
-    heap: Global,
-    pins: u8,
-    switches: &[(u32, u8)],
-    told: &str,
-) -> Result<(), Fail> {
-    let file = setting_map(heap, pins, 127, switches)?;
-    assert_eq!(rt; verdict(heap, &file, Format::Settings)?.as_str(), told);
-    Ok(())
-}
-
-fn ranges_told(
-    rt: &impl Abort,
-    heap: Global,
-    pins: u8,
-    ranges: &[(u32, u32)],
-    told: &str,
-) -> Result<(), Fail> {
-    let file = range_map(heap, pins, ranges)?;
-    assert_eq!(rt; verdict(heap, &file, Format::Ranges)?.as_str(), told);
-    Ok(())
-}
 
 #[test]
 fn twenty_pins(rt: HostRuntime) -> Result<(), Fail> {
-    bits_told(&rt, rt.alloc(), 20, &[1], "ACCEPTED")?;
-    settings_told(&rt, rt.alloc(), 20, &[], "ACCEPTED")?;
-    ranges_told(&rt, rt.alloc(), 20, &[], "ACCEPTED")
+    let bits = bit_map(rt.alloc(), 20, &[1])?;
+    let settings = setting_map(rt.alloc(), 20, 127, &[])?;
+    let ranges = range_map(rt.alloc(), 20, &[])?;
+    check_verdict(&rt, &bits, Format::Bits, "ACCEPTED")?;
+    check_verdict(&rt, &settings, Format::Settings, "ACCEPTED")?;
+    check_verdict(&rt, &ranges, Format::Ranges, "ACCEPTED")
 }
 
 #[test]
 fn not_one_pin_more(rt: HostRuntime) -> Result<(), Fail> {
-    bits_told(&rt, rt.alloc(), 21, &[1], "REFUSED 5 F 6")?;
-    settings_told(&rt, rt.alloc(), 21, &[], "REFUSED 5 F 6")?;
-    ranges_told(&rt, rt.alloc(), 21, &[], "REFUSED 5 F 5")
+    let bits = bit_map(rt.alloc(), 21, &[1])?;
+    let settings = setting_map(rt.alloc(), 21, 127, &[])?;
+    let ranges = range_map(rt.alloc(), 21, &[])?;
+    check_verdict(&rt, &bits, Format::Bits, "REFUSED 5 F 6")?;
+    check_verdict(&rt, &settings, Format::Settings, "REFUSED 5 F 6")?;
+    check_verdict(&rt, &ranges, Format::Ranges, "REFUSED 5 F 5")
 }
 
 #[test]
 fn top_address(rt: HostRuntime) -> Result<(), Fail> {
     for pins in 1..21u8 {
         let top = (1u32 << pins) - 1;
-        bits_told(&rt, rt.alloc(), pins, &[top], "ACCEPTED")?;
-        settings_told(&rt, rt.alloc(), pins, &[(top, 0)], "ACCEPTED")?;
-        ranges_told(&rt, rt.alloc(), pins, &[(top, top)], "ACCEPTED")?;
+        let bits = bit_map(rt.alloc(), pins, &[top])?;
+        let settings = setting_map(rt.alloc(), pins, 127, &[(top, 0)])?;
+        let ranges = range_map(rt.alloc(), pins, &[(top, top)])?;
+        check_verdict(&rt, &bits, Format::Bits, "ACCEPTED")?;
+        check_verdict(&rt, &settings, Format::Settings, "ACCEPTED")?;
+        check_verdict(&rt, &ranges, Format::Ranges, "ACCEPTED")?;
     }
     Ok(())
 }
@@ -70,73 +43,59 @@ fn top_address(rt: HostRuntime) -> Result<(), Fail> {
 fn not_one_address_more(rt: HostRuntime) -> Result<(), Fail> {
     for pins in 1..21u8 {
         let above = 1u32 << pins;
-        bits_told(&rt, rt.alloc(), pins, &[above], "REFUSED 8 M 1")?;
-        settings_told(&rt, rt.alloc(), pins, &[(above, 0)], "REFUSED 8 M 1")?;
-        ranges_told(&rt, rt.alloc(), pins, &[(0, above)], "REFUSED 8 M 1")?;
+        let bits = bit_map(rt.alloc(), pins, &[above])?;
+        let settings = setting_map(rt.alloc(), pins, 127, &[(above, 0)])?;
+        let ranges = range_map(rt.alloc(), pins, &[(0, above)])?;
+        check_verdict(&rt, &bits, Format::Bits, "REFUSED 8 M 1")?;
+        check_verdict(&rt, &settings, Format::Settings, "REFUSED 8 M 1")?;
+        check_verdict(&rt, &ranges, Format::Ranges, "REFUSED 8 M 1")?;
     }
     Ok(())
 }
 
-// The addresses 1 to `count`.
-fn rising(heap: Global, count: u32) -> Result<Vec<u32>, AllocError> {
-    let mut addresses = Vec::new(heap);
-    for i in 0..count {
-        addresses.push(i.saturating_add(1))?;
-    }
-    Ok(addresses)
+// Switches at the addresses 1 to `count`.
+fn rising(heap: Global, count: u32) -> Result<Vec<u8>, AllocError> {
+    let switches = (1..=count).collect::<Vec<u32>>(heap)?;
+    bit_map(heap, 11, &switches)
 }
 
 #[test]
 fn most_switches(rt: HostRuntime) -> Result<(), Fail> {
-    bits_told(&rt, rt.alloc(), 11, &rising(rt.alloc(), 1024)?, "ACCEPTED")?;
-    bits_told(
-        &rt,
-        rt.alloc(),
-        11,
-        &rising(rt.alloc(), 1025)?,
-        "REFUSED 6 F 8",
-    )
+    let full = rising(rt.alloc(), 1024)?;
+    let over = rising(rt.alloc(), 1025)?;
+    check_verdict(&rt, &full, Format::Bits, "ACCEPTED")?;
+    check_verdict(&rt, &over, Format::Bits, "REFUSED 6 F 8")
 }
 
 // Ranges of one address, with one address between two.
-fn spaced(heap: Global, count: u32) -> Result<Vec<(u32, u32)>, AllocError> {
-    let mut ranges = Vec::new(heap);
-    for i in 0..count {
-        let at = i.saturating_mul(2);
-        ranges.push((at, at))?;
-    }
-    Ok(ranges)
+fn spaced(heap: Global, pins: u8, count: u32) -> Result<Vec<u8>, AllocError> {
+    let ranges = (0..count)
+        .map(|i| i.saturating_mul(2))
+        .map(|at| (at, at))
+        .collect::<Vec<(u32, u32)>>(heap)?;
+    range_map(heap, pins, &ranges)
 }
 
 #[test]
 fn most_ranges(rt: HostRuntime) -> Result<(), Fail> {
-    ranges_told(&rt, rt.alloc(), 11, &spaced(rt.alloc(), 1024)?, "ACCEPTED")?;
-    ranges_told(
-        &rt,
-        rt.alloc(),
-        12,
-        &spaced(rt.alloc(), 1025)?,
-        "REFUSED 6 F 6",
-    )
+    let full = spaced(rt.alloc(), 11, 1024)?;
+    let over = spaced(rt.alloc(), 12, 1025)?;
+    check_verdict(&rt, &full, Format::Ranges, "ACCEPTED")?;
+    check_verdict(&rt, &over, Format::Ranges, "REFUSED 6 F 6")
 }
 
-// Settings 5 and 6 by turns.
-fn turns(heap: Global, count: u32) -> Result<Vec<(u32, u8)>, AllocError> {
-    let mut switches = Vec::new(heap);
-    for i in 0..count {
-        switches.push((i.saturating_add(1), (i % 2) as u8 + 5))?;
-    }
-    Ok(switches)
+// Settings 5 and 6 by turns, at the addresses 1 to `count`.
+fn turns(heap: Global, count: u32) -> Result<Vec<u8>, AllocError> {
+    let switches = (1..=count)
+        .zip([5, 6].into_iter().cycle())
+        .collect::<Vec<(u32, u8)>>(heap)?;
+    setting_map(heap, 11, 127, &switches)
 }
 
 #[test]
 fn most_settings(rt: HostRuntime) -> Result<(), Fail> {
-    settings_told(&rt, rt.alloc(), 11, &turns(rt.alloc(), 1024)?, "ACCEPTED")?;
-    settings_told(
-        &rt,
-        rt.alloc(),
-        11,
-        &turns(rt.alloc(), 1025)?,
-        "REFUSED 6 F 8",
-    )
+    let full = turns(rt.alloc(), 1024)?;
+    let over = turns(rt.alloc(), 1025)?;
+    check_verdict(&rt, &full, Format::Settings, "ACCEPTED")?;
+    check_verdict(&rt, &over, Format::Settings, "REFUSED 6 F 8")
 }

@@ -1,5 +1,5 @@
 // Damaged files, each with the refusal that comes first.
-use crate::building::verdict;
+use crate::checking::check_verdict;
 use files::format::Format;
 use std::process::Abort;
 use std::test::Fail;
@@ -261,8 +261,7 @@ const RANGES: [Case; 15] = [
 
 fn check_all(rt: &(impl Abort + AllocGlobal), cases: &[Case]) -> Result<(), Fail> {
     for case in cases {
-        let told = verdict(rt.alloc(), case.bytes, case.format)?;
-        assert_eq!(rt; told.as_str(), case.told);
+        check_verdict(rt, case.bytes, case.format, case.told)?;
     }
     Ok(())
 }
