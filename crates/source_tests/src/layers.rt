@@ -13,10 +13,6 @@ use sources::source::Source;
 use std::process::Abort;
 use std::test::Fail;
 
-fn check_inverted<S: Source<Of = bool>>(rt: &impl Abort, source: &S, codes: &Table) {
-    check_source(rt, &Inverted::new(source), &inverted(codes));
-}
-
 // Inverted pins, with every mask.
 fn check_flipped<S: Source>(rt: &impl Abort, source: &S, codes: &Table) -> Result<(), Fail> {
     for mask in 0..1u32 << source.pins() {
@@ -35,9 +31,7 @@ fn check_mounted<S: Source>(
 ) -> Result<(), Fail> {
     let own = source.pins();
     for code in fills {
-        let Some(fill) = <S::Of>::decode(*code) else {
-            return Err(Fail::new("no end"));
-        };
+        let fill = <S::Of>::decode(*code).ok_or_else(|| Fail::new("no end"))?;
         for (more, bases) in [(0, 1), (1, 2), (2, 4)] {
             for base in 0..bases {
                 let made = Mounted::new(source, own.saturating_add(more), base, fill)?;
@@ -48,15 +42,23 @@ fn check_mounted<S: Source>(
     Ok(())
 }
 
+// A source of bits, under each layer.
+fn check_layers<S: Source<Of = bool>>(
+    rt: &impl Abort,
+    source: &S,
+    codes: &Table,
+) -> Result<(), Fail> {
+    check_source(rt, &Inverted::new(source), &inverted(codes));
+    check_flipped(rt, source, codes)?;
+    check_mounted(rt, source, codes, &[0, 1])
+}
+
 #[test]
 fn over_all_files_of_bits(rt: HostRuntime) -> Result<(), Fail> {
     for (pins, patterns) in ALL_BITS {
         for pattern in 0..patterns {
             let sample = bits(rt.alloc(), pins, pattern)?;
-            let file = BitFile::over(&sample.bytes);
-            check_inverted(&rt, &file, &sample.codes);
-            check_flipped(&rt, &file, &sample.codes)?;
-            check_mounted(&rt, &file, &sample.codes, &[0, 1])?;
+            check_layers(&rt, &BitFile::over(&sample.bytes), &sample.codes)?;
         }
     }
     Ok(())
@@ -79,10 +81,7 @@ fn over_all_files_of_settings(rt: HostRuntime) -> Result<(), Fail> {
 fn over_range_files(rt: HostRuntime) -> Result<(), Fail> {
     for pattern in 0..256 {
         let sample = ranges(rt.alloc(), 3, pattern)?;
-        let file = RangeFile::over(&sample.bytes);
-        check_inverted(&rt, &file, &sample.codes);
-        check_flipped(&rt, &file, &sample.codes)?;
-        check_mounted(&rt, &file, &sample.codes, &[0, 1])?;
+        check_layers(&rt, &RangeFile::over(&sample.bytes), &sample.codes)?;
     }
     Ok(())
 }

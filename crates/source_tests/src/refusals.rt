@@ -5,8 +5,6 @@ use readers::bit_file::BitFile;
 use sources::flipped::Flipped;
 use sources::mounted::Mounted;
 use sources::source::Source;
-use std::alloc::Global;
-use std::process::Abort;
 use std::test::Fail;
 
 // The pins of a map, a mask, and the place of the refusal if there is one.
@@ -48,52 +46,30 @@ const MOUNTS: [(u8, u32, u32, Option<usize>); 20] = [
 ];
 
 fn refusal(place: Option<usize>) -> Option<Fault> {
-    match place {
-        Some(place) => Some(Fault {
-            ground: Ground::SourceLayer,
-            layer: Layer::Plan,
-            place,
-        }),
-        None => None,
-    }
-}
-
-fn check_masks(
-    rt: &impl Abort,
-    heap: Global,
-    cases: &[(u8, u32, Option<usize>)],
-) -> Result<(), Fail> {
-    for (own, mask, place) in cases {
-        let bytes = bit_map(heap, *own, &[1])?;
-        let file = BitFile::over(&bytes);
-        assert_eq!(rt; Flipped::new(&file, *mask).err(), refusal(*place));
-    }
-    Ok(())
-}
-
-fn check_mounts(
-    rt: &impl Abort,
-    heap: Global,
-    cases: &[(u8, u32, u32, Option<usize>)],
-) -> Result<(), Fail> {
-    for (own, pins, base, place) in cases {
-        let bytes = bit_map(heap, *own, &[1])?;
-        let file = BitFile::over(&bytes);
-        assert_eq!(rt;
-            Mounted::new(&file, *pins, *base, true).err(),
-            refusal(*place)
-        );
-    }
-    Ok(())
+    place.map(|place| Fault {
+        ground: Ground::SourceLayer,
+        layer: Layer::Plan,
+        place,
+    })
 }
 
 #[test]
 fn masks(rt: HostRuntime) -> Result<(), Fail> {
     assert_eq!(rt; Ground::SourceLayer.number(), 20);
-    check_masks(&rt, rt.alloc(), &MASKS)
+    for (own, mask, place) in MASKS {
+        let bytes = bit_map(rt.alloc(), own, &[1])?;
+        let file = BitFile::over(&bytes);
+        assert_eq!(rt; Flipped::new(&file, mask).err(), refusal(place));
+    }
+    Ok(())
 }
 
 #[test]
 fn mounts(rt: HostRuntime) -> Result<(), Fail> {
-    check_mounts(&rt, rt.alloc(), &MOUNTS)
+    for (own, pins, base, place) in MOUNTS {
+        let bytes = bit_map(rt.alloc(), own, &[1])?;
+        let file = BitFile::over(&bytes);
+        assert_eq!(rt; Mounted::new(&file, pins, base, true).err(), refusal(place));
+    }
+    Ok(())
 }

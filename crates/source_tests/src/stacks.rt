@@ -98,13 +98,12 @@ fn check_stack(rt: &impl Abort, sample: &Sample, stack: Stack) -> Result<(), Fai
 fn stacks_of_three(rt: HostRuntime) -> Result<(), Fail> {
     for pattern in 0..16 {
         let sample = bits(rt.alloc(), 2, pattern)?;
-        for n in 0..32u32 {
-            let stack = Stack {
-                mask: n % 4,
-                base: n / 4 % 4,
-                fill: n >= 16,
-            };
-            check_stack(&rt, &sample, stack)?;
+        for mask in 0..4 {
+            for base in 0..4 {
+                for fill in [false, true] {
+                    check_stack(&rt, &sample, Stack { mask, base, fill })?;
+                }
+            }
         }
     }
     Ok(())

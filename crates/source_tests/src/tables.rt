@@ -1,5 +1,7 @@
 // Truth tables: the code of each address. A map of fewer than 5 pins has the first ones.
-ghost use Rattle.std.specs.Prelude.{◌≤◌};
+ghost use Rattle.std.specs.Prelude.{◌≤◌, ◌<◌};
+
+use std::array;
 
 pub type Table = [u16; 32];
 
@@ -10,64 +12,39 @@ pub const SETTINGS: [u16; 4] = [0, 8, 16, 127];
 pub const NO_CODE: u16 = u16::MAX;
 
 pub fn code_at(codes: &[u16], address: usize) -> u16 {
-    if address < codes.len() {
-        codes[address]
-    } else {
-        NO_CODE
-    }
+    codes.get(address).copied().unwrap_or(NO_CODE)
 }
 
 // The bits of a pattern, lowest first.
 pub fn bit_table(pattern: u64) -> Table {
-    let mut made = [0; 32];
-    let mut rest = pattern;
-    for address in 0..32 {
-        if rest % 2 == 1 {
-            made[address] = 1;
-        }
-        rest = rest / 2;
-    }
-    made
+    array::from_fn(|address| (pattern >> (address % 32) & 1) as u16)
 }
 
 // Two bits of a pattern for each setting, lowest first.
 pub fn setting_table(pattern: u64) -> Table {
-    let mut made = [0; 32];
-    let mut rest = pattern;
-    for address in 0..32 {
-        made[address] = code_at(&SETTINGS, (rest % 4) as usize);
-        rest = rest / 4;
-    }
-    made
+    array::from_fn(|address| code_at(&SETTINGS, (pattern >> (address % 32 * 2) & 3) as usize))
 }
 
 // Every bit turned over.
 pub fn inverted(codes: &Table) -> Table {
-    let mut made = [0; 32];
-    for address in 0..32 {
-        made[address] = codes[address] ^ 1;
-    }
-    made
+    codes.map(|code| code ^ 1)
 }
 
 // Each address with the code of the address that differs from it in the bits of the mask.
 pub fn flipped(codes: &Table, mask: u32) -> Table {
-    let mut made = [0; 32];
-    for address in 0..32 {
-        made[address] = code_at(codes, address ^ mask as usize);
-    }
-    made
+    array::from_fn(|address| code_at(codes, address ^ mask as usize))
 }
 
 // A table of so many pins where the bits above them are the base, and the fill code elsewhere.
 pub fn mounted(codes: &Table, own: u32, base: u32, fill: u16) -> Table
     requires { own ≤ 20 }
 {
-    let mut made = [fill; 32];
-    for address in 0..32 {
-        if address >> own == base as usize {
-            made[address] = code_at(codes, address ^ (base as usize) << own);
+    let base = base as usize;
+    array::from_fn(|address| {
+        if address >> own == base {
+            code_at(codes, address ^ base << own)
+        } else {
+            fill
         }
-    }
-    made
+    })
 }
