@@ -1,4 +1,4 @@
-// Layers that are made or refused, at the edges: 20 P, with a place.
+// Layers that are made or refused, at the edges: 20 P, with a place; and bytes that are no map file.
 use faults::fault::{Fault, Ground, Layer};
 use map_tests::building::bit_map;
 use readers::bit_file::BitFile;
@@ -72,4 +72,10 @@ fn mounts(rt: HostRuntime) -> Result<(), Fail> {
         assert_eq!(rt; Mounted::new(&file, pins, base, true).err(), refusal(place));
     }
     Ok(())
+}
+
+#[test]
+fn no_map_file(rt: HostRuntime) {
+    let file = BitFile::read(b"XWL\x00\x01\x00\x02\x00\x00");
+    assert_eq!(rt; file.err(), Some(Ground::TooShort.at(9)));
 }

@@ -1,85 +1,28 @@
 // Every address and every block of small map files.
 use crate::asking::{check_source, told_by};
-use crate::samples::{ALL_BITS, ALL_SETTINGS, bits, ranges, settings};
+use crate::samples::{ALL_BITS, ALL_SETTINGS, Sample, bits, ranges, settings};
 use ends::end::End;
-use files::accept::accept;
-use files::format::Format;
-use readers::bit_file::BitFile;
-use readers::range_file::RangeFile;
-use readers::setting_file::SettingFile;
+use readers::bit_file::Bits;
+use readers::kind::Kind;
+use readers::map_file::MapFile;
+use readers::range_file::Ranges;
+use readers::setting_file::Settings;
 use sources::block::Block;
 use sources::source::{Answer, Source};
-use std::alloc::Global;
 use std::process::Abort;
 use std::test::Fail;
 
-// A source that tells the end of an address.
-trait Ends: Source {
-    fn told(&self, address: u32) -> Answer<u16>;
-}
-
-fn told_of<E: End>(end: Option<E>) -> Answer<u16> {
-    end.map_or(Answer::Outside, |end| Answer::All(end.encode()))
-}
-
-impl<'a> Ends for BitFile<'a> {
-    fn told(&self, address: u32) -> Answer<u16> {
-        told_of(self.end_at(address))
-    }
-}
-
-impl<'a> Ends for SettingFile<'a> {
-    fn told(&self, address: u32) -> Answer<u16> {
-        told_of(self.end_at(address))
-    }
-}
-
-impl<'a> Ends for RangeFile<'a> {
-    fn told(&self, address: u32) -> Answer<u16> {
-        told_of(self.end_at(address))
-    }
-}
-
 // At each address and at some past the top, the reader and the source of a table agree.
-fn check_file<F: Ends>(rt: &impl Abort, file: &F, codes: &[u16]) {
-    let pins = file.pins();
-    for address in 0..34 {
-        let block = Block {
-            level: pins,
-            number: address,
-        };
-        assert_eq!(rt; file.told(address), told_by(file, block).told);
+fn check_file<K: Kind>(rt: &impl Abort, sample: &Sample) -> Result<(), Fail> {
+    let file = MapFile::<K>::read(&sample.bytes)?;
+    let level = file.pins();
+    for number in 0..34 {
+        let told = file
+            .end_at(number)
+            .map_or(Answer::Outside, |end| Answer::All(end.encode()));
+        assert_eq!(rt; told, told_by(&file, Block { level, number }).told);
     }
-    check_source(rt, file, codes);
-}
-
-fn check_bits(rt: &impl Abort, heap: Global, pins: u8, pattern: u64) -> Result<(), Fail> {
-    let sample = bits(heap, pins, pattern)?;
-    check_file(
-        rt,
-        &BitFile::over(accept(&sample.bytes, Format::Bits)?),
-        &sample.codes,
-    );
-    Ok(())
-}
-
-fn check_settings(rt: &impl Abort, heap: Global, pins: u8, pattern: u64) -> Result<(), Fail> {
-    let sample = settings(heap, pins, pattern)?;
-    check_file(
-        rt,
-        &SettingFile::over(accept(&sample.bytes, Format::Settings)?),
-        &sample.codes,
-    );
-    Ok(())
-}
-
-fn check_ranges(rt: &impl Abort, heap: Global, pins: u8, pattern: u64) -> Result<(), Fail> {
-    let sample = ranges(heap, pins, pattern)?;
-    check_file(
-        rt,
-        &RangeFile::over(accept(&sample.bytes, Format::Ranges)?),
-        &sample.codes,
-    );
+    check_source(rt, &file, &sample.codes);
     Ok(())
 }
 
@@ -87,8 +30,8 @@ fn check_ranges(rt: &impl Abort, heap: Global, pins: u8, pattern: u64) -> Result
 fn all_files_of_bits(rt: HostRuntime) -> Result<(), Fail> {
     for (pins, patterns) in ALL_BITS {
         for pattern in 0..patterns {
-            check_bits(&rt, rt.alloc(), pins, pattern)?;
-            check_ranges(&rt, rt.alloc(), pins, pattern)?;
+            check_file::<Bits>(&rt, &bits(rt.alloc(), pins, pattern)?)?;
+            check_file::<Ranges>(&rt, &ranges(rt.alloc(), pins, pattern)?)?;
         }
     }
     Ok(())
@@ -98,7 +41,7 @@ fn all_files_of_bits(rt: HostRuntime) -> Result<(), Fail> {
 fn all_files_of_settings(rt: HostRuntime) -> Result<(), Fail> {
     for (pins, patterns) in ALL_SETTINGS {
         for pattern in 0..patterns {
-            check_settings(&rt, rt.alloc(), pins, pattern)?;
+            check_file::<Settings>(&rt, &settings(rt.alloc(), pins, pattern)?)?;
         }
     }
     Ok(())
@@ -108,10 +51,10 @@ fn all_files_of_settings(rt: HostRuntime) -> Result<(), Fail> {
 fn some_larger_files(rt: HostRuntime) -> Result<(), Fail> {
     for i in 0..200u64 {
         let pattern = i * 0x9E_3779_B97F_4A7D;
-        check_bits(&rt, rt.alloc(), 4, pattern)?;
-        check_bits(&rt, rt.alloc(), 5, pattern)?;
-        check_ranges(&rt, rt.alloc(), 5, pattern)?;
-        check_settings(&rt, rt.alloc(), 3, pattern)?;
+        check_file::<Bits>(&rt, &bits(rt.alloc(), 4, pattern)?)?;
+        check_file::<Bits>(&rt, &bits(rt.alloc(), 5, pattern)?)?;
+        check_file::<Ranges>(&rt, &ranges(rt.alloc(), 5, pattern)?)?;
+        check_file::<Settings>(&rt, &settings(rt.alloc(), 3, pattern)?)?;
     }
     Ok(())
 }
