@@ -1,7 +1,5 @@
 // A plan with its tables, and its listing as text.
 use faults::fault::Fault;
-use files::accept::accept;
-use files::format::Format;
 use map_tests::building::{bit_map, setting_map};
 use model::Node;
 use plans::issued::IssuedPlan;
@@ -42,7 +40,7 @@ impl Tables {
         switches: &[u32],
     ) -> Result<(), Fail> {
         let bytes = bit_map(heap, pins, switches)?;
-        let map = BitFile::over(accept(&bytes, Format::Bits)?);
+        let map = BitFile::read(&bytes)?;
         plan.draw(
             &map,
             line,
@@ -63,7 +61,7 @@ impl Tables {
         switches: &[(u32, u8)],
     ) -> Result<(), Fail> {
         let bytes = setting_map(heap, pins, first, switches)?;
-        let map = SettingFile::over(accept(&bytes, Format::Settings)?);
+        let map = SettingFile::read(&bytes)?;
         plan.draw(
             &map,
             line,

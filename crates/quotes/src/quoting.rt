@@ -2,8 +2,6 @@ ghost use Rattle.std.specs.Prelude.{◌≡◌, ◌≤◌};
 ghost use Rattle.quotes.specs.Quotes.{Drawn, Quoted, address_order};
 
 use faults::fault::Fault;
-use files::accept::accept;
-use files::format::Format;
 use model::Node;
 use plans::open::OpenPlan;
 use readers::bit_file::BitFile;
@@ -37,6 +35,5 @@ fn quote_map(map: &BitFile) -> Result<u16, Fault>
 pub fn quote(bytes: &[u8]) -> Result<u16, Fault>
     ensures { Quoted bytes.now result }
 {
-    let map = BitFile::over(accept(bytes, Format::Bits)?);
-    quote_map(&map)
+    quote_map(&BitFile::read(bytes)?)
 }

@@ -9,8 +9,6 @@ ghost use Rattle.settled.specs.Readings.{ReadsFour};
 use crate::samples::SINGLE;
 use ends::end::End;
 use faults::fault::Fault;
-use files::accept::accept;
-use files::format::Format;
 use model::Node;
 use plans::open::OpenPlan;
 use readers::bit_file::BitFile;
@@ -47,5 +45,5 @@ fn read_mounted<S: Source<Of = bool> + Drop>(one: S) -> Result<[Result<u16, Faul
 pub fn mount_settles() -> Result<[Result<u16, Fault>; 4], Fault>
     ensures { MountSettles result }
 {
-    read_mounted(BitFile::over(accept(SINGLE, Format::Bits)?))
+    read_mounted(BitFile::read(SINGLE)?)
 }

@@ -10,8 +10,6 @@ ghost use Rattle.settled.specs.Reckonings.{Reckons};
 use crate::outcomes::Reckoning;
 use ends::end::End;
 use faults::fault::Fault;
-use files::accept::accept;
-use files::format::Format;
 use model::Node;
 use plans::open::OpenPlan;
 use readers::bit_file::BitFile;
@@ -41,14 +39,12 @@ fn reckon<S: Source>(source: &S, order: &[u8]) -> Result<Reckoning, Fault>
 pub(crate) fn reckon_bits(bytes: &[u8], order: &[u8]) -> Result<Reckoning, Fault>
     ensures { fault Bits bytes.now ≡ None → Reckons (pins_of Bits bytes.now) (codes bit_code (bit_at bytes.now)) order.now result }
 {
-    let map = BitFile::over(accept(bytes, Format::Bits)?);
-    reckon(&map, order)
+    reckon(&BitFile::read(bytes)?, order)
 }
 
 // The same of a switch file of chip settings.
 pub(crate) fn reckon_settings(bytes: &[u8], order: &[u8]) -> Result<Reckoning, Fault>
     ensures { fault Settings bytes.now ≡ None → Reckons (pins_of Settings bytes.now) (codes setting_code (chip_at bytes.now)) order.now result }
 {
-    let map = SettingFile::over(accept(bytes, Format::Settings)?);
-    reckon(&map, order)
+    reckon(&SettingFile::read(bytes)?, order)
 }
