@@ -2,6 +2,7 @@
 ghost use Rattle.files.specs.Theorems.{AcceptedWhenObeyed, CoveredIsInside, LastIsTold};
 
 // Bytes have no fault exactly when they obey the layout and the rules of the entries.
+#[tactic(auto, using(crate::proofs::Obeying::obeys, crate::proofs::Obeying::obeyed))]
 pub fn accepted_exactly_when_obeyed()
     ensures { AcceptedWhenObeyed }
 {}
@@ -12,6 +13,7 @@ pub fn last_entry_is_told()
 {}
 
 // An address is covered exactly when a range has it between its first and its last address.
+#[tactic(auto, using(crate::proofs::Covers::covered_told))]
 pub fn covered_is_inside_a_range()
     ensures { CoveredIsInside }
 {}
