@@ -16,6 +16,7 @@ pub struct MapFile<'a, K: Kind> {
     ghost few: { pins_of K.format bytes.now ≤ 20 },
 }
 
+// By hand, since a generic struct with ghost fields is refused a derived `Clone`.
 impl<'a, K: Kind> Copy for MapFile<'a, K> {}
 
 impl<'a, K: Kind> Clone for MapFile<'a, K> {

@@ -2,10 +2,12 @@
 use crate::asking::{check_source, told_by};
 use crate::samples::{ALL_BITS, ALL_SETTINGS, Sample, bits, ranges, settings};
 use ends::end::End;
-use readers::bit_file::Bits;
+use map_tests::building::{bit_map, range_map};
+use readers::bit_file::{BitFile, Bits};
+use readers::entry::{Range, Switch};
 use readers::kind::Kind;
 use readers::map_file::MapFile;
-use readers::range_file::Ranges;
+use readers::range_file::{RangeFile, Ranges};
 use readers::setting_file::Settings;
 use sources::block::Block;
 use sources::source::{Answer, Source};
@@ -56,5 +58,23 @@ fn some_larger_files(rt: HostRuntime) -> Result<(), Fail> {
         check_file::<Ranges>(&rt, &ranges(rt.alloc(), 5, pattern)?)?;
         check_file::<Settings>(&rt, &settings(rt.alloc(), 3, pattern)?)?;
     }
+    Ok(())
+}
+
+#[test]
+fn entries(rt: HostRuntime) -> Result<(), Fail> {
+    let bytes = bit_map(rt.alloc(), 2, &[1, 3])?;
+    let file = BitFile::read(&bytes)?;
+    assert_eq!(rt; file.switches(), 2);
+    for (i, address, end) in [(0, 0, false), (1, 1, true), (2, 3, false)] {
+        assert_eq!(rt; file.switch(i), Some(Switch { address, end }));
+    }
+    assert_eq!(rt; file.switch(3), None);
+    let bytes = range_map(rt.alloc(), 2, &[(1, 2)])?;
+    let file = RangeFile::read(&bytes)?;
+    assert_eq!(rt; file.ranges(), 1);
+    assert_eq!(rt; file.range(0), None);
+    assert_eq!(rt; file.range(1), Some(Range { first: 1, last: 2 }));
+    assert_eq!(rt; file.range(2), None);
     Ok(())
 }
