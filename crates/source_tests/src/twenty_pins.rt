@@ -89,26 +89,15 @@ const CHANGES: [u32; 10] = [
 #[test]
 fn files_of_bits(rt: HostRuntime) -> Result<(), Fail> {
     for at in CHANGES {
+        let step = Step {
+            low: 0,
+            at,
+            high: 1,
+        };
         let bytes = bit_map(rt.alloc(), 20, &[at])?;
-        check_step(
-            &rt,
-            &BitFile::over(&bytes),
-            Step {
-                low: 0,
-                at,
-                high: 1,
-            },
-        );
+        check_step(&rt, &BitFile::over(&bytes), step);
         let bytes = range_map(rt.alloc(), 20, &[(at, TOP)])?;
-        check_step(
-            &rt,
-            &RangeFile::over(&bytes),
-            Step {
-                low: 0,
-                at,
-                high: 1,
-            },
-        );
+        check_step(&rt, &RangeFile::over(&bytes), step);
     }
     Ok(())
 }
