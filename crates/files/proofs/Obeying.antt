@@ -1,11 +1,11 @@
 -- Bytes have no fault exactly when they obey the layout and the rules of the entries.
-use Rattle.std.proofs.Common.{◌≡◌, ℕ, zero, suc, ◌+◌, ◌-◌, ◌*◌, ◌^◌, ◌<◌, ◌≤◌, true, false, eqb, List, [], ◌∷◌, length, get_or, take, Some, None, sym, refl, ◌∙◌, subst, add-one, arith, pow_pos}
+use Rattle.std.proofs.Common.{◌≡◌, ℕ, zero, suc, ◌+◌, ◌-◌, ◌^◌, ◌<◌, ◌≤◌, true, false, eqb, List, [], ◌∷◌, length, get_or, take, Some, None, sym, refl, ◌∙◌, subst, add-one, arith, pow_pos}
 use Rattle.std.proofs.lemmas.Bool.Decides.{nat_tests}
 use Rattle.faults.specs.declared.fault.Fault.{Fault}
 use Rattle.faults.specs.Refusals.{is_none}
 use Rattle.files.specs.declared.format.Format.{Format}
 use Rattle.files.specs.declared.format.Format.TheVariants.{Bits, Settings, Ranges}
-use Rattle.files.specs.Formats.{mark_of, double, header_size, entry_size, pins_of, count_of, first_of, last_of, code_of, code_limit}
+use Rattle.files.specs.Formats.{mark_of, header_size, pins_of, count_of, first_of, last_of, code_of, code_limit}
 use Rattle.files.specs.Verdict.{marked, of_kind, header_fault, first_fault, switch_fault, range_fault, later_fault, entry_fault, entries_fault, fault, blank}
 use Rattle.files.specs.Rules.{KindRead, LaidOut, SwitchesObey, RangesObey, EntriesObey, Obeys}
 use Rattle.files.proofs.Scans.{or_left, or_right, or_none, none_of, entries_none, none_entries}
@@ -50,40 +50,18 @@ three_in Settings = omega arith
 three_in Ranges = omega arith
 
 module _ (k : Format) (bs : List ℕ) where
-  header_long : header_fault k bs ≡ None → header_size k ≤ length bs
-  header_long e = grind (arith, nat_tests)
-
-  header_marked : header_fault k bs ≡ None → marked k bs ≡ true
-  header_marked e = grind (arith, nat_tests)
-
-  header_version : header_fault k bs ≡ None → double bs 3 ≡ 1
-  header_version e = grind (arith, nat_tests)
-
-  header_kind : header_fault k bs ≡ None → of_kind k bs ≡ true
-  header_kind e = grind (arith, nat_tests)
-
-  header_some : header_fault k bs ≡ None → 1 ≤ pins_of k bs
-  header_some e = grind (arith, nat_tests)
-
-  header_few : header_fault k bs ≡ None → pins_of k bs ≤ 20
-  header_few e = grind (arith, nat_tests)
-
-  header_count : header_fault k bs ≡ None → count_of k bs ≤ 1024
-  header_count e = grind (arith, nat_tests)
-
-  header_whole : header_fault k bs ≡ None → length bs ≡ header_size k + count_of k bs * entry_size k
-  header_whole e = grind (arith, nat_tests)
-
   laid_out : header_fault k bs ≡ None → LaidOut k bs
-  laid_out e = record {
-    mark = mark_told k bs (omega (arith, three_in k, header_long e)) (header_marked e);
-    version = header_version e;
-    kind = kind_told k bs (header_kind e);
-    some_pins = header_some e;
-    few_pins = header_few e;
-    few_entries = header_count e;
-    whole = header_whole e;
-  }
+  laid_out e =
+      let long : header_size k ≤ length bs = grind (arith, nat_tests) in
+      record {
+        mark = mark_told k bs (omega (arith, three_in k, long)) (grind (arith, nat_tests));
+        version = grind (arith, nat_tests);
+        kind = kind_told k bs (grind (arith, nat_tests));
+        some_pins = grind (arith, nat_tests);
+        few_pins = grind (arith, nat_tests);
+        few_entries = grind (arith, nat_tests);
+        whole = grind (arith, nat_tests);
+      }
 
   unrefused : LaidOut k bs → header_fault k bs ≡ None
   unrefused h =
