@@ -1,7 +1,9 @@
 -- Counting entries that are not 0.
-use Rattle.std.proofs.Common.{◌≡◌, ℕ, zero, suc, ◌+◌, ◌<◌, ◌≤◌, Bool, cond, ltb, List, [], ◌∷◌, length, get_or, take, set, sym, refl, ap, ◌∙◌, add-one, arith, length-take}
-use Rattle.std.proofs.lemmas.Bool.{ltb-true, lt-ltb}
+use Rattle.std.proofs.Common.{◌≡◌, ℕ, zero, suc, ◌+◌, ◌<◌, ◌≤◌, Bool, cond, not, eqb, ltb, List, [], ◌∷◌, length, get_or, take, set, sym, refl, ap, ◌∙◌, add-one, arith, length-take}
+use Rattle.std.specs.List.{count_by}
+use Rattle.std.proofs.lemmas.Bool.{ltb-true, lt-ltb, ne_eqb}
 use Rattle.std.proofs.lemmas.List.{take_all}
+use Rattle.std.proofs.lemmas.List.Recursion.{is_count_by}
 use Rattle.model.specs.Lists.{In, Apart}
 use Rattle.model.proofs.Lists.{pigeonhole}
 use Rattle.model.proofs.Marks.{marked, from_marked, in_marked, apart_marked, length_marked}
@@ -22,6 +24,13 @@ nonzero_le (suc a) = omega arith
 pub nonzero_is : (a : ℕ) → (a ≡ 0 → ⊥) → nonzero a ≡ 1
 nonzero_is zero h = absurd (h refl)
 nonzero_is (suc a) h = refl
+
+pub filled_counted : (xs : List ℕ) → filled xs ≡ count_by (λ x. not (eqb x 0)) xs
+filled_counted = is_count_by filled (λ x. not (eqb x 0)) refl (λ x xs. one x (filled xs))
+  where
+    one : (x f : ℕ) → nonzero x + f ≡ cond (not (eqb x 0)) (1 + f) f
+    one zero f = omega arith
+    one (suc x) f = ap (λ b. cond (not b) (1 + f) f) (sym (ne_eqb (suc x) 0 (omega arith)))
 
 pub filled_le : (xs : List ℕ) → filled xs ≤ length xs
 filled_le [] = omega arith

@@ -6,7 +6,9 @@ use Rattle.model.specs.declared.Node.{Node}
 use Rattle.model.specs.Diagrams.{listed, Ordered, Reduced}
 use Rattle.tables.specs.Indexes.{probe, nonzero, filled, Leads}
 use Rattle.tables.specs.States.{Live, State}
-use Rattle.tables.specs.Probes.{Missed, Vacancy, Entered, Entering}
+use Rattle.tables.specs.declared.indexing.Found.{Found}
+use Rattle.tables.specs.declared.indexing.Found.TheVariants.{At, Vacant, Full}
+use Rattle.tables.specs.Probes.{Missed, Vacancy, Probed, Entered, Entering, Enters, entered_at}
 use Rattle.tables.proofs.Marks.{live_inside, live_set}
 use Rattle.tables.proofs.Counts.{filled_set, filled_le, filled_more, filled_take_le, nonzero_is, none_filled}
 use Rattle.tables.proofs.Rounds.{some_empty}
@@ -95,6 +97,17 @@ module _ (nodes : List Node) (marks index : List ℕ) (c : ℕ) (h : Entering no
         entered = entered_more nodes nodes (Below marks c) (Below marks (c + 1)) index k c p h.entered v (λ i g. refl) (sym is) (omega arith, omega arith) (λ i g. (omega (arith, g.0), g.1)) (below_or marks c);
         counted = filled_set index p c v.inside v.empty ∙ (let f = filled_more marks c lt in let u : nonzero (get_or marks c 0) ≡ 1 = nonzero_is _ live in let w = h.counted in omega arith);
       }
+
+-- the node of slot c, live, was looked up and entered
+pub enter_live : (nodes : List Node) (marks index index' : List ℕ) (c : ℕ) → c < length marks → length marks ≡ length nodes → length nodes < length index → Reduced (listed nodes) (Live marks) → (get_or marks c 0 ≡ 0 → ⊥)
+    → Enters nodes index c index' → Entering nodes marks index c → Entering nodes marks index' (c + 1)
+enter_live nodes marks index index' c lt long room r live e h =
+    subst (λ x. Entering nodes marks x (c + 1)) (sym e.entered) (go e.found e.probed)
+  where
+    go : (f : Found) → Probed nodes index (listed nodes c) f → Entering nodes marks (entered_at f index c) (c + 1)
+    go (At i) p = absurd (enter_there nodes marks index c h _ p.2.0 r live p.1 p.2.1)
+    go (Vacant q) p = enter_new nodes marks index c h q _ refl lt live p
+    go Full p = absurd (enter_full nodes marks index c h _ long room p)
 
 pub enter_done : (n : ℕ) (nodes : List Node) (marks index : List ℕ) (c : ℕ) → length marks ≤ c → length marks ≡ length nodes → length nodes ≤ 4096 → length nodes < length index
     → Ordered n (listed nodes) (Live marks) → Reduced (listed nodes) (Live marks) → Entering nodes marks index c → State n nodes marks index

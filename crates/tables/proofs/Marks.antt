@@ -81,15 +81,17 @@ module _ (n : ℕ) (nodes : List Node) (m : List ℕ) (d i : ℕ) (w : Node) (b 
   pub mark_marked : Live m i → Marks n nodes m d b m
   mark_marked l us dg long f = marking_done (listed nodes) m b (subst (Marked m) (sym is) l)
 
-  pub mark_outside : length m ≤ i → Marks n nodes m d b m
-  mark_outside out us dg long f = absurd (let l = in_table nodes (λ i. In i us) dg.reduced i (entered_at us f).0 in omega arith)
+  pub mark_old : ((i < length m) × (get_or m i 0 ≡ 0) → ⊥) → Marks n nodes m d b m
+  mark_old old us dg long f =
+      let l : i < length m = let l = in_table nodes (λ i. In i us) dg.reduced i (entered_at us f).0 in omega arith in
+      mark_marked (let z : get_or m i 0 ≡ 0 → ⊥ = λ z. old (l, z) in omega arith) us dg long f
 
-  pub mark_early : w.place < d → Marks n nodes m d b m
-  mark_early l us dg long f = absurd (let p : w.place ≡ (listed nodes i).place = ap (λ (k : Node). k.place) read in let q = (entered_at us f).1 in omega arith)
-
-  pub mark_late : n ≤ w.place → Marks n nodes m d b m
-  mark_late l us dg long f =
-      absurd (let p : w.place ≡ (listed nodes i).place = ap (λ (k : Node). k.place) read in let q = dg.ordered.within i (entered_at us f).0 in omega arith)
+  pub mark_astray : (d ≤ w.place → w.place < n → ⊥) → Marks n nodes m d b m
+  mark_astray out us dg long f =
+      absurd (let p : w.place ≡ (listed nodes i).place = ap (λ (k : Node). k.place) read in
+      let q = (entered_at us f).1 in
+      let r = dg.ordered.within i (entered_at us f).0 in
+      out (omega arith) (omega arith))
 
   pub mark_node : (m₂ m₃ : List ℕ) → i < length m → length (set m i 1) ≡ length m → length m₂ ≡ length m
       → Marks n nodes (set m i 1) (w.place + 1) w.low m₂ → Marks n nodes m₂ (w.place + 1) w.high m₃ → Marks n nodes m d b m₃

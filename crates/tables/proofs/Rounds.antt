@@ -1,27 +1,11 @@
 -- Probes that go round.
-use Rattle.std.proofs.Common.{◌≡◌, ℕ, ◌+◌, ◌-◌, ◌*◌, ◌/◌, ◌%◌, ◌<◌, ◌≤◌, List, length, get_or, sym, ap, ◌∙◌, subst, add_assoc, mod-lt, mod-eq_of_lt, mul-one, mul-add, arith, below_more}
-use native.Mathlib.Nat.{mod-add-mod, mod_self, add-mod-mod, mul-add-mod_self_left, mod-add-div}
+use Rattle.std.proofs.Common.{◌≡◌, ℕ, ◌+◌, ◌-◌, ◌*◌, ◌/◌, ◌%◌, ◌<◌, List, length, get_or, ap, ◌∙◌, subst, mod-lt, mod-eq_of_lt, mul-one, mul-add, arith, below_more}
+use native.Mathlib.Nat.{add-mod-mod, mul-add-mod_self_left, mod-add-div}
 use Rattle.model.specs.declared.Node.{Node}
 use Rattle.model.specs.Diagrams.{listed}
 use Rattle.tables.specs.Indexes.{spread, probe, filled}
 use Rattle.tables.specs.Probes.{Missed}
 use Rattle.tables.proofs.Counts.{all_filled}
-
-pub round_in : (a n : ℕ) → a + 1 < n → a + 1 ≡ (a + 1) % n
-round_in a n l = sym (mod-eq_of_lt l)
-
-pub round_over : (a n : ℕ) → a < n → n ≤ a + 1 → 0 ≡ (a + 1) % n
-round_over a n l g = let e : n ≡ a + 1 = omega arith in sym (mod_self n) ∙ ap (λ z. z % n) e
-
-pub round_less : (a n b : ℕ) → a < n → b ≡ (a + 1) % n → b < n
-round_less a n b l e = let pos : 0 < n = omega arith in let m = mod-lt (a + 1) pos in omega arith
-
--- the probe after the e-th
-pub round_on : (s e n a b : ℕ) → a ≡ (s + e) % n → b ≡ (a + 1) % n → b ≡ (s + (e + 1)) % n
-round_on s e n a b h g = g ∙ (ap (λ z. (z + 1) % n) h ∙ (mod-add-mod (s + e) n 1 ∙ ap (λ z. z % n) (add_assoc s e 1)))
-
-pub round_start : (s n : ℕ) → s % n ≡ (s + 0) % n
-round_start s n = let e : s ≡ s + 0 = omega arith in ap (λ z. z % n) e
 
 -- each place is met by one of the probes
 met : (s n p : ℕ) → p < n → (s + ((p + (n - s % n)) % n)) % n ≡ p

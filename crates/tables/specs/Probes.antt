@@ -1,5 +1,5 @@
 -- Looking up a node in the index, looking for a free slot, and entering nodes one by one.
-use Rattle.std.specs.Prelude.{◌≡◌, ℕ, ◌+◌, ◌-◌, ◌<◌, ◌≤◌, List, length, take, Some, None, Option, ◌≢◌, slice_index, slice_index_or}
+use Rattle.std.specs.Prelude.{◌≡◌, ℕ, ◌+◌, ◌-◌, ◌<◌, ◌≤◌, List, length, take, Some, None, Option, ◌≢◌, slice_index, slice_index_or, slice_set}
 use Rattle.model.specs.declared.Node.{Node}
 use Rattle.model.specs.Diagrams.{listed, Ordered, Reduced}
 use Rattle.tables.specs.declared.indexing.Found.{Found}
@@ -44,10 +44,17 @@ pub record Entering (nodes : List Node) (marks index : List ℕ) (c : ℕ) : Typ
   pub entered : Entered nodes (λ i. (i < c) × Live marks i) index
   pub counted : filled index ≡ filled (take c marks)
 
--- entering slot c, where no two live nodes are alike and the index has room
-abbrev pub Enters : List Node → List ℕ → List ℕ → ℕ → List ℕ → Type 0
-Enters nodes marks index c index' =
-    Reduced (listed nodes) (Live marks) → length nodes < length index → Entering nodes marks index c → Entering nodes marks index' (c + 1)
+-- the index with an entry for slot s where a look-up found room
+abbrev pub entered_at : Found → List ℕ → ℕ → List ℕ
+entered_at (At i) index s = index
+entered_at (Vacant p) index s = slice_set index p (s + 1)
+entered_at Full index s = index
+
+-- entering the node of slot s
+pub record Enters (nodes : List Node) (index : List ℕ) (s : ℕ) (index' : List ℕ) : Type 0 where
+  pub found : Found
+  pub probed : Probed nodes index (listed nodes s) found
+  pub entered : index' ≡ entered_at found index s
 
 -- an index that is made anew over the live nodes
 abbrev pub Indexes : List Node → List ℕ → List ℕ → Type 0

@@ -4,7 +4,6 @@ ghost use Rattle.tables.specs.Additions.{Adds, Prepares};
 use crate::indexing::{Found, MOST_NODES, free_slot, index_marked, probe};
 use crate::line::Line;
 use crate::marking::mark_roots;
-use crate::reading::same_branch;
 use model::{Branch, Node};
 
 // Cuts marks and index out of the work, marks what is reached from the held lines, and makes the index over it.
@@ -75,7 +74,7 @@ pub fn node_for(
     if place >= pins {
         return None;
     }
-    if same_branch(low, high) {
+    if low == high {
         return Some(low);
     }
     let wanted = Node { place, low, high };

@@ -1,4 +1,4 @@
-ghost use Rattle.std.specs.Prelude.{◌≡◌, ℕ, ◌<◌, ◌≤◌, List, length, slice_index};
+ghost use Rattle.std.specs.Prelude.{◌≡◌, ℕ, ◌<◌, ◌≤◌, List, length, slice_index, Decides};
 ghost use Rattle.tables.specs.Indexes.{filled};
 ghost use Rattle.tables.specs.Markings.{Marks, MarksRoots, Counts};
 
@@ -13,6 +13,13 @@ pub(crate) fn clear(entries: &mut [u32])
     entries.fill(0);
 }
 
+// Whether a node is in the table and not marked.
+fn is_unmarked(marks: &[u32], i: u16) -> bool
+    ensures { Decides result ((i < length marks.now) × (slice_index marks.now i ≡ 0)) }
+{
+    marks.get(usize::from(i)) == Some(&0)
+}
+
 // Marks what is reached from a branch whose places are `place` and later, but is not marked yet.
 fn mark_from(nodes: &[Node], marks: &mut [u32], pins: u8, place: u8, branch: Branch)
     ensures { Marks pins nodes.now marks.old place branch marks.new }
@@ -20,17 +27,11 @@ fn mark_from(nodes: &[Node], marks: &mut [u32], pins: u8, place: u8, branch: Bra
     let Branch::Node(i) = branch else {
         return;
     };
-    if i as usize >= marks.len() {
-        return;
-    }
-    if marks[i as usize] != 0 {
+    if !is_unmarked(marks, i) {
         return;
     }
     let node = node_at(nodes, i);
-    if node.place < place {
-        return;
-    }
-    if node.place >= pins {
+    if !(place..pins).contains(&node.place) {
         return;
     }
     marks[i as usize] = 1;
@@ -55,11 +56,5 @@ pub fn count_marks(marks: &[u32]) -> usize
     ensures filled { result ≡ filled marks.now }
     ensures counts { Counts marks.now result }
 {
-    let mut count = 0;
-    for mark in marks {
-        if *mark != 0 {
-            count += 1;
-        }
-    }
-    count
+    marks.iter().filter(|mark| **mark != 0).count()
 }

@@ -7,29 +7,11 @@ ghost use Rattle.tables.specs.Reads.{place_of};
 
 use model::{Branch, Node};
 
-// Whether two branches are one.
-pub fn same_branch(a: Branch, b: Branch) -> bool
-    ensures { Decides result (a ≡ b) }
-{
-    a == b
-}
-
-// Whether two nodes are alike.
-pub(crate) fn same_node(node: Node, other: Node) -> bool
-    ensures { Decides result (node ≡ other) }
-{
-    node == other
-}
-
 // The node of that number: blank past the end of the table.
 pub fn node_at(nodes: &[Node], i: u16) -> Node
     ensures { result ≡ listed nodes.now i }
 {
-    if (i as usize) < nodes.len() {
-        nodes[i as usize]
-    } else {
-        Node::blank()
-    }
+    nodes.get(usize::from(i)).copied().unwrap_or(Node::blank())
 }
 
 // The place of a branch's node; an end stands past all pins.
@@ -63,10 +45,7 @@ pub fn step(nodes: &[Node], place: u8, high: bool, branch: Branch) -> Branch
 pub fn is_end(branch: Branch) -> bool
     ensures { Decides result (branch ≡ end (code branch)) }
 {
-    match branch {
-        Branch::End(_) => true,
-        Branch::Node(_) => false,
-    }
+    matches!(branch, Branch::End(_))
 }
 
 // The code of an end; 0 for a node.
@@ -83,13 +62,7 @@ pub fn code_of(branch: Branch) -> u16
 fn is_high(pins: usize, p: u8, address: u32) -> bool
     ensures { pins ≤ 32 → p < pins → result ≡ pin pins address p }
 {
-    if pins > 32 {
-        return false;
-    }
-    if p as usize >= pins {
-        return false;
-    }
-    (address >> (pins - 1 - p as usize)) % 2 == 1
+    pins <= 32 && usize::from(p) < pins && (address >> (pins - 1 - usize::from(p))) % 2 == 1
 }
 
 // The code at which an address ends, read from a root along the order.
@@ -101,8 +74,8 @@ pub fn read(nodes: &[Node], order: &[u8], root: Branch, address: u32) -> u16
         return 0;
     }
     let mut branch = root;
-    for place in 0..pins {
-        let high = is_high(pins, order[place], address);
+    for (place, pin) in order.iter().enumerate() {
+        let high = is_high(pins, *pin, address);
         branch = step(nodes, place as u8, high, branch);
     }
     code_of(branch)

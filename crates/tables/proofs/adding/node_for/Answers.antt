@@ -1,13 +1,12 @@
-use Rattle.std.proofs.Common.{◌≡◌, ◌-◌, get_or, subst, arith}
-use Rattle.std.proofs.lemmas.Bool.Decides.{not_from_Decides}
+use Rattle.std.proofs.Common.{◌≡◌, ◌-◌, get_or, subst, arith, rules}
 use Rattle.tables.specs.States.{Live}
 use Rattle.tables.proofs.Entries.{not_full}
 use Rattle.tables.proofs.Fairness.{added_one, added_there, added_none, added_put}
 use Rattle.tables.proofs.adding.node_for.Goals as goal
 
-pub returns-then-same_branch : goal.returns-then-same_branch
-returns-then-same_branch c = λ st small fl fh.
-    added_one c.args.pins c.args.place c.args.low c.args.high c.args.nodes.now c.args.marks.now c.args.index.now st small fl fh (c.same_branch.ensures.0 c.if-same_branch.true)
+pub returns-then-eq : goal.returns-then-eq
+returns-then-eq c = λ st small fl fh.
+    added_one c.args.pins c.args.place c.args.low c.args.high c.args.nodes.now c.args.marks.now c.args.index.now st small fl fh (search rules)
 
 pub returns-in-At : goal.returns-in-At
 returns-in-At c = λ st small fl fh.
@@ -22,11 +21,11 @@ returns-in-Full c = λ st small fl fh. absurd (not_full c.args.pins c.args.nodes
 pub returns-in-None : goal.returns-in-None
 returns-in-None c = λ st small fl fh.
     added_none c.args.pins c.args.place c.args.low c.args.high c.args.nodes.now c.args.marks.now c.args.index.now st small fl fh
-    (not_from_Decides _ c.same_branch.ensures c.if-same_branch.false) c.in-Vacant.at c.in-Vacant.ensures c.in-None.ensures
+    (search rules) c.in-Vacant.at c.in-Vacant.ensures c.in-None.ensures
 
 pub returns-in-Some : goal.returns-in-Some
 returns-in-Some c = λ st small fl fh.
     let f = c.in-Some.ensures in
     added_put c.args.pins c.args.place c.args.low c.args.high c.args.nodes.now c.args.marks.now c.args.index.now st small fl fh
-    (not_from_Decides _ c.same_branch.ensures c.if-same_branch.false) c.in-Vacant.at c.in-Vacant.ensures c.in-Some.slot f.0 f.1
+    (search rules) c.in-Vacant.at c.in-Vacant.ensures c.in-Some.slot f.0 f.1
     c.occupy.new.nodes c.occupy.new.marks c.occupy.new.index c.occupy.ensures.nodes c.occupy.ensures.marks c.occupy.ensures.index
