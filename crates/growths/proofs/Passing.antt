@@ -1,5 +1,5 @@
 -- Whether every code of a diagram passes.
-use Rattle.std.proofs.Common.{◌≡◌, ℕ, zero, suc, ◌+◌, ◌-◌, ◌^◌, ◌<◌, ◌≤◌, Bool, true, false, cond, ◌&&◌, eqb, List, [], ◌∷◌, length, Some, sym, refl, ap, ◌∙◌, subst, inl, inr, arith}
+use Rattle.std.proofs.Common.{◌≡◌, ℕ, zero, suc, ◌+◌, ◌-◌, ◌^◌, ◌<◌, Bool, true, false, cond, ◌&&◌, eqb, List, [], ◌∷◌, length, Some, IsTrue, EachIndex, ◌↔◌, sym, refl, ap, ◌∙◌, subst, inl, inr, arith}
 use Rattle.std.proofs.lemmas.Bool.{and_parts, and_from, both_ways, eqb-true, eqb-false}
 use Rattle.model.specs.declared.Branch.{Branch}
 use Rattle.model.specs.declared.Branch.TheVariants.{End as end, Node as node}
@@ -14,7 +14,7 @@ use Rattle.model.proofs.Least.{from_next, no_node}
 use Rattle.tables.specs.States.{Live}
 use Rattle.tables.specs.Markings.{Diagram, MarkedFrom, MarksRoots}
 use Rattle.tables.proofs.Marks.{live_inside, roots_marked}
-use Rattle.growths.specs.Codes.{all_codes, end_passes, Passes, EveryAddressPasses}
+use Rattle.growths.specs.Codes.{all_codes, end_passes, node_passes, Passes, EveryAddressPasses}
 
 module _ (p : ℕ → Bool) (n : ℕ) (T : Table) (U : ℕ → Type 0) (o : Ordered n T U) where
   end_codes : (h d c : ℕ) → all_codes p (tree T h d (end c)) ≡ p c
@@ -102,19 +102,24 @@ module _ (p : ℕ → Bool) (n : ℕ) (nodes : List Node) (size : List ℕ) (roo
     marked : (us : List ℕ) → Diagram n nodes us → length size ≡ length nodes → From (λ i. In i us) (listed nodes) 0 root → MarkedFrom n nodes (root ∷ []) marks
     marked us dg long f = reached us dg (same ∙ long) (λ b m. elim m [ inl e ↦ subst (From (λ i. In i us) (listed nodes) 0) (sym e) f | inr z ↦ absurd z ])
 
-    pub fails_node : (i : ℕ) (v : Bool) → Live marks i → end_passes p (side v (listed nodes i)) ≡ false → Passes p n nodes size root false
-    fails_node i v l bad us dg long f =
+    -- the root passes, and r says whether each marked node does
+    pub passes_marked : end_passes p root ≡ true → (r : Bool) → IsTrue r ↔ EachIndex nodes (λ i. Live marks i → node_passes p (listed nodes i) ≡ true) → Passes p n nodes size root r
+    passes_marked good true is us dg long f =
+        let m = marked us dg long f in
+        let ends : (i : ℕ) → Live marks i → (v : Bool) → end_passes p (side v (listed nodes i)) ≡ true = λ i l v.
+        a_side (listed nodes i) v (is.0 refl i (let b = live_inside marks i l in omega arith) l) in
+        sym (codes_from_ends p n (listed nodes) (Live marks) m.ordered ends n 0 root (omega arith) (roots_marked n nodes (root ∷ []) marks m root (inl refl)) good)
+      where
+        a_side : (k : Node) (v : Bool) → node_passes p k ≡ true → end_passes p (side v k) ≡ true
+        a_side k true e = (and_parts (end_passes p k.low) (end_passes p k.high) e).1
+        a_side k false e = (and_parts (end_passes p k.low) (end_passes p k.high) e).0
+    passes_marked good false is us dg long f =
+        not_true_false _ (λ q.
+        both_ways false refl (is.1 (λ i b l.
         let r = ((marked us dg long f).exact i).0 l in
         let e : r.0 ≡ root = elim r.1 [ inl q ↦ q | inr z ↦ absurd z ] in
-        not_true_false _ (λ q. both_ways (end_passes p (side v (listed nodes i))) bad
-        (ends_from_codes p n (listed nodes) (λ i. In i us) dg.ordered r.2.0 n 0 root i (omega arith) f q (subst (λ b. follow (listed nodes) r.2.0 b ≡ node i) e r.2.1) v))
-
-    pub passes_all : (c : ℕ) → length marks ≤ c → end_passes p root ≡ true → ((i : ℕ) → i < c → Live marks i → (v : Bool) → end_passes p (side v (listed nodes i)) ≡ true)
-        → Passes p n nodes size root true
-    passes_all c le good all us dg long f =
-        let m = marked us dg long f in
-        sym (codes_from_ends p n (listed nodes) (Live marks) m.ordered (λ i l v. all i (let b = live_inside marks i l in omega arith) l v) n 0 root (omega arith)
-        (roots_marked n nodes (root ∷ []) marks m root (inl refl)) good)
+        let ends = ends_from_codes p n (listed nodes) (λ i. In i us) dg.ordered r.2.0 n 0 root i (omega arith) f q (subst (λ b. follow (listed nodes) r.2.0 b ≡ node i) e r.2.1) in
+        and_from (end_passes p (listed nodes i).low) (end_passes p (listed nodes i).high) (ends false) (ends true))))
 
 -- all codes of a view pass where the codes at all addresses do
 view_passes : (n : ℕ) (p : ℕ → Bool) (f : Selection) → ((a : ℕ) → a < 2 ^ n → p (f a) ≡ true) → (ps : List ℕ) (s : Setting) → all_codes p (view n f ps s) ≡ true

@@ -33,6 +33,10 @@ abbrev pub end_passes : (ℕ → Bool) → Branch → Bool
 end_passes p (end c) = p c
 end_passes p (node i) = true
 
+-- whether the codes of a node's ends pass
+abbrev pub node_passes : (ℕ → Bool) → Node → Bool
+node_passes p k = end_passes p k.low && end_passes p k.high
+
 -- whether every code of a root's tree passes, where the root stands in some reduced diagram of the table
 abbrev pub Passes : (ℕ → Bool) → ℕ → List Node → List ℕ → Branch → Bool → Type 0
 Passes p n nodes marks root r =

@@ -2,7 +2,7 @@ ghost use Rattle.growths.specs.Growths.{StrapsTo, Past};
 
 use model::{Branch, Node};
 use tables::adding::node_for;
-use tables::reading::{is_end, same_branch, step};
+use tables::reading::{is_end, step};
 
 // A branch with the pin at the place `at` set low or high, where the places of `branch` are `place` and later.
 // None where no slot is left.
@@ -19,13 +19,7 @@ pub fn restrict(
     ensures set { StrapsTo at high pins place branch nodes.old marks.old index.old nodes.new marks.new index.new result }
     ensures past { Past at place branch nodes.old marks.old index.old nodes.new marks.new index.new result }
 {
-    if at < place {
-        return Some(branch);
-    }
-    if place >= pins {
-        return Some(branch);
-    }
-    if is_end(branch) {
+    if at < place || place >= pins || is_end(branch) {
         return Some(branch);
     }
     if place == at {
@@ -33,15 +27,11 @@ pub fn restrict(
     }
     let low_side = step(nodes, place, false, branch);
     let high_side = step(nodes, place, true, branch);
-    let Some(low) = restrict(nodes, marks, index, pins, place + 1, at, high, low_side) else {
-        return None;
-    };
+    let low = restrict(nodes, marks, index, pins, place + 1, at, high, low_side)?;
     // The branch does not ask the pin of this place.
-    if same_branch(low_side, high_side) {
+    if low_side == high_side {
         return Some(low);
     }
-    let Some(up) = restrict(nodes, marks, index, pins, place + 1, at, high, high_side) else {
-        return None;
-    };
+    let up = restrict(nodes, marks, index, pins, place + 1, at, high, high_side)?;
     node_for(nodes, marks, index, pins, place, low, up)
 }
