@@ -20,61 +20,55 @@ fn pin_bit(pins: usize, pin: u8) -> u32
     1 << (pins - 1 - pin as usize)
 }
 
-// A branch for what a tree leaves where the pins before `place` in the order, those in `mask`, are fixed to their bits in `value`.
-// None where no slot is left.
+// A tree that is drawn in an order.
+#[derive(Clone, Copy)]
+pub struct Subject<'a> {
+    pub tree: Tree,
+    pub records: &'a [Record],
+    pub order: &'a [u8],
+}
+
+// The pins before `place` in an order, those in `mask`, fixed to their bits in `value`.
+#[derive(Clone, Copy)]
+pub struct FixedPins {
+    pub place: u8,
+    pub mask: u32,
+    pub value: u32,
+}
+
+// A branch for what a tree leaves where pins are fixed. None where no slot is left.
 pub fn draw_tree(
-    tree: Tree,
-    records: &[Record],
-    order: &[u8],
+    subject: Subject,
     nodes: &mut [Node],
     marks: &mut [u32],
     index: &mut [u32],
-    place: u8,
-    mask: u32,
-    value: u32,
+    fixed: FixedPins,
 ) -> Option<Branch>
-    ensures { Draws tree records.now order.now place mask value nodes.old marks.old index.old nodes.new marks.new index.new result }
+    ensures { Draws subject.entry.tree subject.entry.records.now subject.entry.order.now fixed.place fixed.mask fixed.value nodes.old marks.old index.old nodes.new marks.new index.new result }
 {
-    match tree.code_left(records, mask, value) {
-        Some(code) => {
-            return Some(Branch::End(code));
-        }
-        None => {}
+    if let Some(code) = subject
+        .tree
+        .code_left(subject.records, fixed.mask, fixed.value)
+    {
+        return Some(Branch::End(code));
     }
-    let pins = order.len();
-    if pins > MOST_PINS {
+    let pins = subject.order.len();
+    let FixedPins { place, mask, value } = fixed;
+    if pins > MOST_PINS || place as usize >= pins {
         return None;
     }
-    if place as usize >= pins {
-        return None;
-    }
-    let bit = pin_bit(pins, order[place as usize]);
-    let Some(low) = draw_tree(
-        tree,
-        records,
-        order,
-        nodes,
-        marks,
-        index,
-        place + 1,
-        mask | bit,
+    let bit = pin_bit(pins, subject.order[place as usize]);
+    let with_low = FixedPins {
+        place: place + 1,
+        mask: mask | bit,
         value,
-    ) else {
-        return None;
     };
-    let Some(high) = draw_tree(
-        tree,
-        records,
-        order,
-        nodes,
-        marks,
-        index,
-        place + 1,
-        mask | bit,
-        value | bit,
-    ) else {
-        return None;
+    let with_high = FixedPins {
+        value: value | bit,
+        ..with_low
     };
+    let low = draw_tree(subject, nodes, marks, index, with_low)?;
+    let high = draw_tree(subject, nodes, marks, index, with_high)?;
     node_for(nodes, marks, index, pins as u8, place, low, high)
 }
 
@@ -91,5 +85,15 @@ pub fn draw_root(
     ensures { DrawsRoot tree records.now order.now nodes.old work.old pins lines.now nodes.new result }
 {
     let (marks, index) = prepare(nodes, work, pins, lines);
-    draw_tree(tree, records, order, nodes, marks, index, 0, 0, 0)
+    let subject = Subject {
+        tree,
+        records,
+        order,
+    };
+    let none = FixedPins {
+        place: 0,
+        mask: 0,
+        value: 0,
+    };
+    draw_tree(subject, nodes, marks, index, none)
 }
