@@ -19,7 +19,8 @@ use Rattle.trees.specs.Records.{Built}
 use Rattle.growths.proofs.Halves.{stayed, low_refused, high_refused, halves_node}
 use Rattle.growths.proofs.Rooted.{grown_root}
 use Rattle.drawings.specs.Fixed.{Fixed, bit_of}
-use Rattle.drawings.specs.Draws.{Draws, DrawsRoot}
+use Rattle.tables.specs.declared.adding.Growing.{Growing}
+use Rattle.drawings.specs.Draws.{Draws, DrawsIn, DrawsRoot}
 use Rattle.drawings.proofs.Fixing.{one_code, fixed_low, fixed_high, all_fixed, none_fixed}
 
 -- the pins from a place on
@@ -97,20 +98,22 @@ module _ (tree : Tree) (records : List Record) (order : List ℕ) (d mask value 
             high_refused (whole f s built long names fixed) low_done (o₂ f (put s (get_or order d 0) true) built long names low_done.state (omega (arith, long)) (high_fixed f s built long names fixed))
 
         pub draw_node : (high : Branch) → Draws tree records order (d + 1) (bit_or mask bit) (bit_or value bit) nodes₁ marks₁ index₁ nodes₂ marks₂ index₂ (Some high)
-            → (nodes₃ : List Node) (marks₃ index₃ : List ℕ) (r : Option Branch) → Adds (length order) d low high nodes₂ marks₂ index₂ nodes₃ marks₃ index₃ r → Draws tree records order d mask value nodes marks index nodes₃ marks₃ index₃ r
+            → (nodes₃ : List Node) (marks₃ index₃ : List ℕ) (r : Option Branch) → Adds n d low high nodes₂ marks₂ index₂ nodes₃ marks₃ index₃ r → Draws tree records order d mask value nodes marks index nodes₃ marks₃ index₃ r
         draw_node high o₂ nodes₃ marks₃ index₃ r adds f s built long names st small fixed =
             let low_done = o₁ f (put s (get_or order d 0) false) built long names st (omega (arith, long)) (low_fixed f s built long names fixed) in
             let high_done = o₂ f (put s (get_or order d 0) true) built long names low_done.state (omega (arith, long)) (high_fixed f s built long names fixed) in
-            halves_node (omega (arith, long)) (whole f s built long names fixed) low_done high_done (subst (λ (x : ℕ). Adds x d low high nodes₂ marks₂ index₂ nodes₃ marks₃ index₃ r) long adds)
+            halves_node (omega (arith, long)) (whole f s built long names fixed) low_done high_done adds
 
--- the growth from the first place on, in tables that were prepared
-pub drawn_root : (tree : Tree) (records : List Record) (order : List ℕ) (n : ℕ) (nodes : List Node) (work : List ℕ) (lines : List (Option Branch)) (marks index : List ℕ)
-    → Prepares n nodes work lines marks index → (nodes' : List Node) (marks' index' : List ℕ) (r : Option Branch) → Draws tree records order 0 0 0 nodes marks index nodes' marks' index' r
-    → DrawsRoot tree records order nodes work n lines nodes' r
-drawn_root tree records order n nodes work lines marks index prepared nodes' marks' index' r draws f built long names =
+-- the growth from the first place on, in a table t that was prepared, which leaves it as t' and the nodes as last
+pub drawn_root : (tree : Tree) (records : List Record) (order : List ℕ) (n : ℕ) (nodes : List Node) (work : List ℕ) (lines : List (Option Branch)) (t t' : Growing) → t.pins ≡ n → t.nodes.now ≡ nodes
+    → Prepares n nodes work lines t.marks.now t.index.now → (last : List Node) → t'.nodes.now ≡ last → (r : Option Branch)
+    → DrawsIn tree records order (record { place = 0; mask = 0; value = 0 }) t t' r → DrawsRoot tree records order nodes work n lines last r
+drawn_root tree records order n nodes work lines t t' pins_are nodes_are prepared last ended r draws f built long names =
     let e : tree.pins ≡ n = built.pins in
-    grown_root n nodes work lines marks index prepared nodes' marks' index' r (view_of n order f)
+    let from_none : Draws tree records order 0 0 0 nodes t.marks.now t.index.now t'.nodes.now t'.marks.now t'.index.now r =
+    subst (λ (xs : List Node). Draws tree records order 0 0 0 xs t.marks.now t.index.now t'.nodes.now t'.marks.now t'.index.now r) nodes_are (draws (pins_are ∙ sym e)) in
+    grown_root n nodes work lines t t' pins_are nodes_are prepared last ended r (view_of n order f)
     (λ st from.
-    subst (λ (k : ℕ). Outcome k 0 (view k f order all_low) nodes marks nodes' marks' index' r) e
-    (draws f all_low (subst (λ (k : ℕ). Built k f records tree) (sym e) built) (long ∙ sym e) (subst (λ (k : ℕ). Order k order) (sym e) names)
-    (subst (λ (k : ℕ). State k nodes marks index) (sym e) st) (omega arith) (none_fixed tree.pins order all_low (subst (λ (k : ℕ). Order k order) (sym e) names))))
+    subst (λ (k : ℕ). Outcome k 0 (view k f order all_low) nodes t.marks.now t'.nodes.now t'.marks.now t'.index.now r) e
+    (from_none f all_low (subst (λ (k : ℕ). Built k f records tree) (sym e) built) (long ∙ sym e) (subst (λ (k : ℕ). Order k order) (sym e) names)
+    (subst (λ (k : ℕ). State k nodes t.marks.now t.index.now) (sym e) st) (omega arith) (none_fixed tree.pins order all_low (subst (λ (k : ℕ). Order k order) (sym e) names))))

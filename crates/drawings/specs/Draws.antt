@@ -9,6 +9,8 @@ use Rattle.tables.specs.States.{State, Outcome}
 use Rattle.trees.specs.declared.tree.Record.{Record}
 use Rattle.trees.specs.declared.tree.Tree.{Tree}
 use Rattle.trees.specs.Records.{Built}
+use Rattle.tables.specs.declared.adding.Growing.{Growing}
+use Rattle.drawings.specs.declared.drawing.FixedPins.{FixedPins}
 use Rattle.drawings.specs.Fixed.{Fixed}
 
 -- growing what remains of a selection, whose tree was built, with the first d pins of the order fixed
@@ -16,6 +18,11 @@ abbrev pub Draws : Tree → List Record → List ℕ → (d mask value : ℕ) �
 Draws tree records order d mask value nodes marks index nodes' marks' index' r =
     (f : Selection) (s : Setting) → Built tree.pins f records tree → length order ≡ tree.pins → Order tree.pins order → State tree.pins nodes marks index → d ≤ tree.pins
     → Fixed tree.pins mask value (drop d order) s → Outcome tree.pins d (view tree.pins f (drop d order) s) nodes marks nodes' marks' index' r
+
+-- the same in a growing table with the tree's pins
+abbrev pub DrawsIn : Tree → List Record → List ℕ → FixedPins → Growing → Growing → Option Branch → Type 0
+DrawsIn tree records order k t t' r =
+    t.pins ≡ tree.pins → Draws tree records order k.place k.mask k.value t.nodes.now t.marks.now t.index.now t'.nodes.now t'.marks.now t'.index.now r
 
 -- growing a root for a selection whose tree was built, beside lines
 abbrev pub DrawsRoot : Tree → List Record → List ℕ → List Node → List ℕ → ℕ → List (Option Branch) → List Node → Option Branch → Type 0

@@ -1,9 +1,10 @@
 ghost use Rattle.std.specs.Prelude.{◌≡◌, ◌<◌, ◌≤◌};
+ghost use Rattle.tables.specs.Additions.{KeepsLoans};
 ghost use Rattle.drawings.specs.Fixed.{bit_of};
-ghost use Rattle.drawings.specs.Draws.{Draws, DrawsRoot};
+ghost use Rattle.drawings.specs.Draws.{DrawsIn, DrawsRoot};
 
 use model::{Branch, Node};
-use tables::adding::{node_for, prepare};
+use tables::adding::Growing;
 use tables::line::Line;
 use trees::tree::{Record, Tree};
 
@@ -37,14 +38,9 @@ pub struct FixedPins {
 }
 
 // A branch for what a tree leaves where pins are fixed. None where no slot is left.
-pub fn draw_tree(
-    subject: Subject,
-    nodes: &mut [Node],
-    marks: &mut [u32],
-    index: &mut [u32],
-    fixed: FixedPins,
-) -> Option<Branch>
-    ensures { Draws subject.entry.tree subject.entry.records.now subject.entry.order.now fixed.place fixed.mask fixed.value nodes.old marks.old index.old nodes.new marks.new index.new result }
+pub fn draw_tree(subject: Subject, growing: &mut Growing, fixed: FixedPins) -> Option<Branch>
+    ensures loans { KeepsLoans growing.old growing.new }
+    ensures draws { DrawsIn subject.entry.tree subject.entry.records.now subject.entry.order.now fixed growing.old growing.new result }
 {
     if let Some(code) = subject
         .tree
@@ -67,9 +63,9 @@ pub fn draw_tree(
         value: value | bit,
         ..with_low
     };
-    let low = draw_tree(subject, nodes, marks, index, with_low)?;
-    let high = draw_tree(subject, nodes, marks, index, with_high)?;
-    node_for(nodes, marks, index, pins as u8, place, low, high)
+    let low = draw_tree(subject, growing, with_low)?;
+    let high = draw_tree(subject, growing, with_high)?;
+    growing.node_for(place, low, high)
 }
 
 // A root for what a tree means, beside what the held lines reach. None where no slot is left.
@@ -84,7 +80,7 @@ pub fn draw_root(
 ) -> Option<Branch>
     ensures { DrawsRoot tree records.now order.now nodes.old work.old pins lines.now nodes.new result }
 {
-    let (marks, index) = prepare(nodes, work, pins, lines);
+    let mut growing = Growing::prepare(nodes, work, pins, lines);
     let subject = Subject {
         tree,
         records,
@@ -95,5 +91,5 @@ pub fn draw_root(
         mask: 0,
         value: 0,
     };
-    draw_tree(subject, nodes, marks, index, none)
+    draw_tree(subject, &mut growing, none)
 }

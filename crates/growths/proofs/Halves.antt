@@ -9,9 +9,25 @@ use Rattle.model.specs.Diagrams.{Table, listed, next, From, tree}
 use Rattle.model.proofs.Parts.{level_halves}
 use Rattle.model.proofs.Least.{from_next}
 use Rattle.model.proofs.Grow.{tree_kept, passed}
+use Rattle.tables.specs.declared.adding.Growing.{Growing}
 use Rattle.tables.specs.States.{Live, State, Grown, Outcome}
-use Rattle.tables.specs.Additions.{Adds}
+use Rattle.tables.specs.Additions.{Adds, AddsNode}
+use Rattle.growths.specs.Growths.{JoinsTo, JoinsIn, StrapsTo, StrapsIn}
 use Rattle.tables.proofs.Growing.{grown_same, grown_twice, from_weaker, from_grown}
+
+-- what was said of a growing table, said of the pins and the nodes that it is known to have
+module _ (t t' : Growing) (n : ℕ) (nodes : List Node) (pins_are : t.pins ≡ n) (nodes_are : t.nodes.now ≡ nodes) where
+  told_of : (P : ℕ → List Node → Type 0) → P t.pins t.nodes.now → P n nodes
+  told_of P h = subst (P n) nodes_are (subst (λ k. P k t.nodes.now) pins_are h)
+
+  pub joins_of : (g : ℕ → ℕ → ℕ) (d : ℕ) (a b : Branch) (r : Option Branch) → JoinsIn g d a b t t' r → JoinsTo g n d a b nodes t.marks.now t.index.now t'.nodes.now t'.marks.now t'.index.now r
+  joins_of g d a b r = told_of (λ k xs. JoinsTo g k d a b xs t.marks.now t.index.now t'.nodes.now t'.marks.now t'.index.now r)
+
+  pub straps_of : (q : ℕ) (v : Bool) (d : ℕ) (b : Branch) (r : Option Branch) → StrapsIn q v d b t t' r → StrapsTo q v n d b nodes t.marks.now t.index.now t'.nodes.now t'.marks.now t'.index.now r
+  straps_of q v d b r = told_of (λ k xs. StrapsTo q v k d b xs t.marks.now t.index.now t'.nodes.now t'.marks.now t'.index.now r)
+
+  pub adds_of : (d : ℕ) (low high : Branch) (r : Option Branch) → AddsNode d low high t t' r → Adds n d low high nodes t.marks.now t.index.now t'.nodes.now t'.marks.now t'.index.now r
+  adds_of d low high r = told_of (λ k xs. Adds k d low high xs t.marks.now t.index.now t'.nodes.now t'.marks.now t'.index.now r)
 
 -- the tables stay, and a branch is there
 pub stayed : (n d : ℕ) (t : Tree) (nodes : List Node) (marks index : List ℕ) (b : Branch) → State n nodes marks index → From (Live marks) (listed nodes) d b

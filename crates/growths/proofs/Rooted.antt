@@ -15,30 +15,35 @@ use Rattle.tables.proofs.Marks.{roots_marked}
 use Rattle.tables.proofs.Counts.{live_list}
 use Rattle.tables.proofs.Growing.{from_grown}
 use Rattle.tables.proofs.Parting.{parted_marked, live_diagram, from_listed}
-use Rattle.growths.specs.Growths.{JoinsTo, StrapsTo, Grew, Grows}
+use Rattle.tables.specs.declared.adding.Growing.{Growing}
+use Rattle.growths.specs.Growths.{JoinsIn, StrapsIn, Grew, Grows}
+use Rattle.growths.proofs.Halves.{joins_of, straps_of}
 
-module _ (n : ℕ) (nodes : List Node) (work : List ℕ) (lines : List (Option Branch)) (marks index : List ℕ) (prepared : Prepares n nodes work lines marks index)
-    (nodes' : List Node) (marks' index' : List ℕ) (r : Option Branch) where
-  -- a growth from tables that were prepared
-  pub grown_root : (t : Tree) → (State n nodes marks index → ((b : Branch) → In b (held lines) → From (Live marks) (listed nodes) 0 b) → Outcome n 0 t nodes marks nodes' marks' index' r)
-      → Grows n nodes work lines t nodes' r
-  grown_root t grows us dg f few room =
+-- a growth in a table t that was prepared, which leaves it as t' and the nodes as last
+module _ (n : ℕ) (nodes : List Node) (work : List ℕ) (lines : List (Option Branch)) (t t' : Growing) (pins_are : t.pins ≡ n) (nodes_are : t.nodes.now ≡ nodes)
+    (prepared : Prepares n nodes work lines t.marks.now t.index.now) (last : List Node) (ended : t'.nodes.now ≡ last) (r : Option Branch) where
+  pub grown_root : (u : Tree)
+      → (State n nodes t.marks.now t.index.now → ((b : Branch) → In b (held lines) → From (Live t.marks.now) (listed nodes) 0 b) → Outcome n 0 u nodes t.marks.now t'.nodes.now t'.marks.now t'.index.now r)
+      → Grows n nodes work lines u last r
+  grown_root u grows us dg f few room =
       let p = prepared us dg f few room in
-      record { marks = marks; marks' = marks'; index' = index'; marked = p.marked; outcome = grows p.state (roots_marked n nodes (held lines) marks p.marked) }
+      subst (λ (x : List Node). Grew n nodes (held lines) u x r) ended
+      (record { marks = t.marks.now; marks' = t'.marks.now; index' = t'.index.now; marked = p.marked; outcome = grows p.state (roots_marked n nodes (held lines) t.marks.now p.marked) })
 
-  pub joined_root : (g : ℕ → ℕ → ℕ) (a b : Branch) → JoinsTo g n 0 a b nodes marks index nodes' marks' index' r → In a (held lines) → In b (held lines)
-      → Grows n nodes work lines (join g (tree (listed nodes) n 0 a) (tree (listed nodes) n 0 b)) nodes' r
+  pub joined_root : (g : ℕ → ℕ → ℕ) (a b : Branch) → JoinsIn g 0 a b t t' r → In a (held lines) → In b (held lines)
+      → Grows n nodes work lines (join g (tree (listed nodes) n 0 a) (tree (listed nodes) n 0 b)) last r
   joined_root g a b grows ma mb =
       grown_root (join g (tree (listed nodes) n 0 a) (tree (listed nodes) n 0 b))
       (λ st from. let z : n - 0 ≡ n = omega arith in
-      subst (λ k. Outcome n 0 (join g (tree (listed nodes) k 0 a) (tree (listed nodes) k 0 b)) nodes marks nodes' marks' index' r) z (grows st (omega arith) (from a ma) (from b mb)))
+      subst (λ k. Outcome n 0 (join g (tree (listed nodes) k 0 a) (tree (listed nodes) k 0 b)) nodes t.marks.now t'.nodes.now t'.marks.now t'.index.now r) z
+      (joins_of t t' n nodes pins_are nodes_are g 0 a b r grows st (omega arith) (from a ma) (from b mb)))
 
-  pub strapped_root : (q : ℕ) (v : Bool) (b : Branch) → StrapsTo q v n 0 b nodes marks index nodes' marks' index' r → In b (held lines)
-      → Grows n nodes work lines (strap q v (tree (listed nodes) n 0 b)) nodes' r
+  pub strapped_root : (q : ℕ) (v : Bool) (b : Branch) → StrapsIn q v 0 b t t' r → In b (held lines) → Grows n nodes work lines (strap q v (tree (listed nodes) n 0 b)) last r
   strapped_root q v b grows m =
       grown_root (strap q v (tree (listed nodes) n 0 b))
       (λ st from. let z : n - 0 ≡ n = omega arith in let y : q - 0 ≡ q = omega arith in
-      subst (λ t. Outcome n 0 t nodes marks nodes' marks' index' r) (ap₂ (λ j k. strap j v (tree (listed nodes) k 0 b)) y z) (grows st (omega arith) (omega arith) (from b m)))
+      subst (λ u. Outcome n 0 u nodes t.marks.now t'.nodes.now t'.marks.now t'.index.now r) (ap₂ (λ j k. strap j v (tree (listed nodes) k 0 b)) y z)
+      (straps_of t t' n nodes pins_are nodes_are q v 0 b r grows st (omega arith) (omega arith) (from b m)))
 
 -- What a growth means for the lines that stand and for the line that was grown.
 module _ (n : ℕ) (nodes : List Node) (roots : List Branch) (t : Tree) (nodes' : List Node) (us : List ℕ) (dg : Diagram n nodes us)

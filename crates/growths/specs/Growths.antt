@@ -6,6 +6,7 @@ use Rattle.model.specs.Lists.{In, held}
 use Rattle.model.specs.Trees.{Tree}
 use Rattle.model.specs.Joins.{join, strap}
 use Rattle.model.specs.Diagrams.{listed, tree, From}
+use Rattle.tables.specs.declared.adding.Growing.{Growing}
 use Rattle.tables.specs.States.{Live, State, Outcome}
 use Rattle.tables.specs.Markings.{Diagram, MarkedFrom}
 
@@ -20,6 +21,13 @@ abbrev pub StrapsTo : ℕ → Bool → ℕ → ℕ → Branch → List Node → 
 StrapsTo q v n d b nodes marks index nodes' marks' index' r =
     State n nodes marks index → d ≤ n → d ≤ q → From (Live marks) (listed nodes) d b
     → Outcome n d (strap (q - d) v (tree (listed nodes) (n - d) d b)) nodes marks nodes' marks' index' r
+
+-- the same in a growing table
+abbrev pub JoinsIn : (ℕ → ℕ → ℕ) → ℕ → Branch → Branch → Growing → Growing → Option Branch → Type 0
+JoinsIn g d a b t t' r = JoinsTo g t.pins d a b t.nodes.now t.marks.now t.index.now t'.nodes.now t'.marks.now t'.index.now r
+
+abbrev pub StrapsIn : ℕ → Bool → ℕ → Branch → Growing → Growing → Option Branch → Type 0
+StrapsIn q v d b t t' r = StrapsTo q v t.pins d b t.nodes.now t.marks.now t.index.now t'.nodes.now t'.marks.now t'.index.now r
 
 -- where the pin was fixed before, the branch is the answer and nothing is changed
 abbrev pub Past : ℕ → ℕ → Branch → List Node → List ℕ → List ℕ → List Node → List ℕ → List ℕ → Option Branch → Type 0

@@ -10,7 +10,7 @@ use crate::straps::restrict;
 use ends::end::End;
 use ends::joining::Joining;
 use model::{Branch, Node};
-use tables::adding::prepare;
+use tables::adding::Growing;
 use tables::line::Line;
 
 // A root for the join of two roots, beside what the held lines reach. None where no slot is left.
@@ -25,8 +25,8 @@ pub fn join_roots<J: Joining>(
 ) -> Option<Branch>
     ensures { In left (held lines.now) → In right (held lines.now) → Grows pins nodes.old work.old lines.now (join (code_join J.Of.End.decoded J.Of.End.code J.Joining.joined) (tree (listed nodes.old) pins 0 left) (tree (listed nodes.old) pins 0 right)) nodes.new result }
 {
-    let (marks, index) = prepare(nodes, work, pins, lines);
-    apply(joining, nodes, marks, index, pins, 0, left, right)
+    let mut growing = Growing::prepare(nodes, work, pins, lines);
+    apply(joining, &mut growing, 0, left, right)
 }
 
 // A root for another root with the pin at a place set, beside what the held lines reach. None where no slot is left.
@@ -41,6 +41,6 @@ pub fn strap_root(
 ) -> Option<Branch>
     ensures { In root (held lines.now) → Grows pins nodes.old work.old lines.now (strap at high (tree (listed nodes.old) pins 0 root)) nodes.new result }
 {
-    let (marks, index) = prepare(nodes, work, pins, lines);
-    restrict(nodes, marks, index, pins, 0, at, high, root)
+    let mut growing = Growing::prepare(nodes, work, pins, lines);
+    restrict(&mut growing, 0, at, high, root)
 }

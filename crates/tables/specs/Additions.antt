@@ -1,10 +1,11 @@
 -- The common step of every growth, and making tables ready for it.
-use Rattle.std.specs.Prelude.{ℕ, suc, ◌+◌, ◌-◌, ◌*◌, ◌<◌, ◌≤◌, List, length, Option}
+use Rattle.std.specs.Prelude.{◌≡◌, ℕ, suc, ◌+◌, ◌-◌, ◌*◌, ◌<◌, ◌≤◌, List, length, Option}
 use Rattle.model.specs.declared.Branch.{Branch}
 use Rattle.model.specs.declared.Node.{Node}
 use Rattle.model.specs.Lists.{In, held}
 use Rattle.model.specs.Trees.{fork}
 use Rattle.model.specs.Diagrams.{listed, tree, From}
+use Rattle.tables.specs.declared.adding.Growing.{Growing}
 use Rattle.tables.specs.States.{Live, State, Outcome}
 use Rattle.tables.specs.Markings.{Diagram, MarkedFrom}
 
@@ -13,6 +14,17 @@ abbrev pub Adds : ℕ → ℕ → Branch → Branch → List Node → List ℕ �
 Adds n d low high nodes marks index nodes' marks' index' r =
     State n nodes marks index → d < n → From (Live marks) (listed nodes) (suc d) low → From (Live marks) (listed nodes) (suc d) high
     → Outcome n d (fork (tree (listed nodes) (n - suc d) (suc d) low) (tree (listed nodes) (n - suc d) (suc d) high)) nodes marks nodes' marks' index' r
+
+-- the same in a growing table
+abbrev pub AddsNode : ℕ → Branch → Branch → Growing → Growing → Option Branch → Type 0
+AddsNode d low high g g' r = Adds g.pins d low high g.nodes.now g.marks.now g.index.now g'.nodes.now g'.marks.now g'.index.now r
+
+-- a growing table stays in the same memory, with the same pins
+pub record KeepsLoans (g g' : Growing) : Type 0 where
+  pub nodes : g'.nodes.ghost_name ≡ g.nodes.ghost_name
+  pub marks : g'.marks.ghost_name ≡ g.marks.ghost_name
+  pub index : g'.index.ghost_name ≡ g.index.ghost_name
+  pub pins : g'.pins ≡ g.pins
 
 -- the live nodes are those that are reached from the roots, and the tables are in order
 pub record Prepared (n : ℕ) (nodes : List Node) (roots : List Branch) (marks index : List ℕ) : Type 0 where

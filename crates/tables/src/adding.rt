@@ -1,92 +1,121 @@
 ghost use Rattle.std.specs.Prelude.{◌≡◌, ◌+◌, ◌<◌, ◌≤◌, length, slice_set};
-ghost use Rattle.tables.specs.Additions.{Adds, Prepares};
+ghost use Rattle.model.specs.Diagrams.{listed, next};
+ghost use Rattle.tables.specs.Additions.{AddsNode, KeepsLoans, Prepares};
+ghost use Rattle.tables.specs.Probes.{Freed, Probed};
 
 use crate::indexing::{Found, MOST_NODES, free_slot, index_marked, probe};
 use crate::line::Line;
 use crate::marking::mark_roots;
+use crate::reading::step;
 use model::{Branch, Node};
 
-// Cuts marks and index out of the work, marks what is reached from the held lines, and makes the index over it.
-pub fn prepare<'a>(
-    nodes: &[Node],
-    work: &'a mut [u32],
-    pins: u8,
-    lines: &[Line],
-) -> (&'a mut [u32], &'a mut [u32])
-    ensures { Prepares pins nodes.now work.old lines.now result.0.now result.1.now }
-{
-    let len = nodes.len();
-    let room = work.len();
-    if len > MOST_NODES {
-        return work.split_at_mut(0);
-    }
-    if room < 3 * len + 2 {
-        return work.split_at_mut(0);
-    }
-    let (marks, rest) = work.split_at_mut(len);
-    let (index, _) = rest.split_at_mut(2 * len + 2);
-    mark_roots(nodes, marks, pins, lines);
-    index_marked(nodes, marks, index);
-    (marks, index)
+// A node table that grows, with marks and an index over its live nodes. All three are memory lent by the caller,
+// so nodes go by number, a mark is 0 or 1, and an entry of the index is 0 or a slot's number and 1.
+#[derive(Drop)]
+pub struct Growing<'a> {
+    pub nodes: &'a mut [Node],
+    pub marks: &'a mut [u32],
+    pub index: &'a mut [u32],
+    pub pins: u8,
 }
 
-// Puts a node into a slot, marks it, and enters it into the index.
-fn occupy(
-    nodes: &mut [Node],
-    marks: &mut [u32],
-    index: &mut [u32],
-    slot: usize,
-    at: usize,
-    node: Node,
-)
-    requires room { slot < length nodes.old }
-    requires long { length marks.old ≡ length nodes.old }
-    requires few { length nodes.old ≤ 4096 }
-    requires vacant { at < length index.old }
-    ensures nodes { nodes.new ≡ slice_set nodes.old slot node }
-    ensures marks { marks.new ≡ slice_set marks.old slot 1 }
-    ensures index { index.new ≡ slice_set index.old at (slot + 1) }
-{
-    nodes[slot] = node;
-    marks[slot] = 1;
-    index[at] = slot as u32 + 1;
-}
+impl<'a> Growing<'a> {
+    // Cuts marks and index out of the work, marks what is reached from the held lines, and makes the index over it.
+    pub fn prepare(
+        nodes: &'a mut [Node],
+        work: &'a mut [u32],
+        pins: u8,
+        lines: &[Line],
+    ) -> Growing<'a>
+        ensures same { result.nodes.ghost_name ≡ nodes.entry.ghost_name }
+        ensures nodes { result.nodes.now ≡ nodes.old }
+        ensures pins { result.pins ≡ pins }
+        ensures prepared { Prepares pins nodes.old work.old lines.now result.marks.now result.index.now }
+    {
+        let len = nodes.len();
+        if len > MOST_NODES || work.len() < 3 * len + 2 {
+            let (marks, index) = work.split_at_mut(0);
+            return Growing {
+                nodes,
+                marks,
+                index,
+                pins,
+            };
+        }
+        let (marks, rest) = work.split_at_mut(len);
+        let (index, _) = rest.split_at_mut(2 * len + 2);
+        mark_roots(nodes, marks, pins, lines);
+        index_marked(nodes, marks, index);
+        Growing {
+            nodes,
+            marks,
+            index,
+            pins,
+        }
+    }
 
-// A branch for the pin at a place with two branches: the branch itself where both are one,
-// the live node that is alike, or else a new node in a slot that is not live. None where no slot is left.
-pub fn node_for(
-    nodes: &mut [Node],
-    marks: &mut [u32],
-    index: &mut [u32],
-    pins: u8,
-    place: u8,
-    low: Branch,
-    high: Branch,
-) -> Option<Branch>
-    ensures { Adds pins place low high nodes.old marks.old index.old nodes.new marks.new index.new result }
-{
-    if marks.len() != nodes.len() {
-        return None;
+    // Where the pin at a place, low or high, leads from a branch.
+    pub fn step(&self, place: u8, high: bool, branch: Branch) -> Branch
+        ensures { result ≡ next (listed self.now.nodes.now) place high branch }
+    {
+        step(self.nodes, place, high, branch)
     }
-    if nodes.len() > MOST_NODES {
-        return None;
+
+    // Looks a node up in the index.
+    fn find(&self, wanted: Node) -> Found
+        requires { length self.now.nodes.now ≤ 4096 }
+        ensures { Probed self.now.nodes.now self.now.index.now wanted result }
+    {
+        let nodes = &*self.nodes;
+        let index = &*self.index;
+        probe(nodes, index, wanted)
     }
-    if place >= pins {
-        return None;
+
+    // A slot that is not live.
+    fn free(&self, start: usize) -> Option<usize>
+        ensures { Freed self.now.marks.now result }
+    {
+        free_slot(self.marks, start)
     }
-    if low == high {
-        return Some(low);
+
+    // Puts a node into a slot, marks it, and enters it into the index.
+    fn occupy(&mut self, slot: usize, at: usize, node: Node)
+        requires room { slot < length self.old.nodes.now }
+        requires long { length self.old.marks.now ≡ length self.old.nodes.now }
+        requires few { length self.old.nodes.now ≤ 4096 }
+        requires vacant { at < length self.old.index.now }
+        ensures loans { KeepsLoans self.old self.new }
+        ensures nodes { self.new.nodes.now ≡ slice_set self.old.nodes.now slot node }
+        ensures marks { self.new.marks.now ≡ slice_set self.old.marks.now slot 1 }
+        ensures index { self.new.index.now ≡ slice_set self.old.index.now at (slot + 1) }
+    {
+        self.nodes[slot] = node;
+        self.marks[slot] = 1;
+        self.index[at] = slot as u32 + 1;
     }
-    let wanted = Node { place, low, high };
-    match probe(nodes, index, wanted) {
-        Found::At(i) => Some(Branch::Node(i)),
-        Found::Full => None,
-        Found::Vacant(at) => match free_slot(marks, at) {
-            None => None,
-            Some(slot) => {
-                occupy(nodes, marks, index, slot, at, wanted);
+
+    // A branch for the pin at a place with two branches: the branch itself where both are one,
+    // the live node that is alike, or else a new node in a slot that is not live. None where no slot is left.
+    pub fn node_for(&mut self, place: u8, low: Branch, high: Branch) -> Option<Branch>
+        ensures loans { KeepsLoans self.old self.new }
+        ensures adds { AddsNode place low high self.old self.new result }
+    {
+        let len = self.nodes.len();
+        if self.marks.len() != len || len > MOST_NODES || place >= self.pins {
+            return None;
+        }
+        if low == high {
+            return Some(low);
+        }
+        let wanted = Node { place, low, high };
+        match self.find(wanted) {
+            Found::At(i) => Some(Branch::Node(i)),
+            Found::Full => None,
+            Found::Vacant(at) => {
+                let slot = self.free(at)?;
+                self.occupy(slot, at, wanted);
                 Some(Branch::Node(slot as u16))
             }
-        },
+        }
     }
 }
