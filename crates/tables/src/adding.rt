@@ -61,7 +61,7 @@ impl<'a> Growing<'a> {
         step(self.nodes, place, high, branch)
     }
 
-    // Looks a node up in the index.
+    // Looks a node up in the index. One call may not lend two fields, so both are borrowed first.
     fn find(&self, wanted: Node) -> Found
         requires { length self.now.nodes.now ≤ 4096 }
         ensures { Probed self.now.nodes.now self.now.index.now wanted result }

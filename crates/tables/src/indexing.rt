@@ -40,6 +40,7 @@ pub(crate) fn probe(nodes: &[Node], index: &[u32], wanted: Node) -> Found
     ensures { Probed nodes.now index.now wanted result }
 {
     let start = spread_node(wanted) as usize;
+    // A chain of two ranges is no plainer: `Probed` counts the probes too.
     for e in 0..index.len() {
         let at = (start + e) % index.len();
         let entry = index[at];
