@@ -6,3 +6,4 @@ pub mod Entries
 pub mod Growing
 pub mod Fairness
 pub mod Parting
+pub mod Options

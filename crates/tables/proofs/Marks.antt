@@ -1,7 +1,7 @@
 -- Marking what is reached.
 use Rattle.std.proofs.Common.{None, Some, Option, ◌≡◌, ℕ, zero, suc, ◌+◌, ◌<◌, ◌≤◌, Bool, true, false, ◌⊎◌, List, [], ◌∷◌, ◌++◌, length, get_or, take, set, sym, refl, ap, ◌∙◌, subst, inl, inr, add-one, arith, get_or-set_other, get_or-set_same}
 use Rattle.std.proofs.lemmas.Bool.{cases_lt, cases_eq}
-use Rattle.std.proofs.lemmas.List.{get_or_past, append-nil, take_more, take_all}
+use Rattle.std.proofs.lemmas.List.{get_or_past, take_more, take_all}
 use Rattle.model.specs.declared.Branch.{Branch}
 use Rattle.model.specs.declared.Branch.TheVariants.{End as end, Node as node}
 use Rattle.model.specs.declared.Node.{Node}
@@ -132,21 +132,17 @@ more_so_far T rs marks marks' b g h =
       ];
     }
 
-held_push : (ls : List (Option Branch)) (l : Option Branch) → held ((ls ++ (l ∷ []))) ≡ held ls ++ held (l ∷ [])
-held_push [] l = refl
-held_push (None ∷ ls) l = held_push ls l
-held_push (Some b ∷ ls) l = ap (λ z. b ∷ z) (held_push ls l)
+-- the k-th root was marked from
+pub root_next : (T : Table) (all : List Branch) (k j : ℕ) (marks marks' : List ℕ) (b : Branch) → k < length all → b ≡ get_or all k b → j ≡ k + 1 → Marking T marks b marks'
+    → SoFar T (take k all) marks → SoFar T (take j all) marks'
+root_next T all k j marks marks' b lt here next g h =
+    let e : take j all ≡ take k all ++ (b ∷ []) = ap (λ z. take z all) next ∙ (take_more all k b lt ∙ ap (λ z. take k all ++ (z ∷ [])) (sym here)) in
+    subst (λ z. SoFar T z marks') (sym e) (more_so_far T (take k all) marks marks' b g h)
 
-taken_more : (ls : List (Option Branch)) (c : ℕ) (l : Option Branch) → c < length ls → get_or ls c None ≡ l → held (take (c + 1) ls) ≡ held (take c ls) ++ held (l ∷ [])
-taken_more ls c l lt e = ap (λ z. held z) (take_more ls c None lt ∙ ap (λ z. take c ls ++ (z ∷ [])) e) ∙ held_push (take c ls) l
-
-pub line_empty : (T : Table) (ls : List (Option Branch)) (c : ℕ) (marks : List ℕ) → c < length ls → get_or ls c None ≡ None
-    → SoFar T (held (take c ls)) marks → SoFar T (held (take (c + 1) ls)) marks
-line_empty T ls c marks lt e h = subst (λ z. SoFar T z marks) (sym (taken_more ls c None lt e ∙ append-nil (held (take c ls)))) h
-
-pub line_held : (T : Table) (ls : List (Option Branch)) (c : ℕ) (marks marks' : List ℕ) (b : Branch) → c < length ls → get_or ls c None ≡ Some b → Marking T marks b marks'
-    → SoFar T (held (take c ls)) marks → SoFar T (held (take (c + 1) ls)) marks'
-line_held T ls c marks marks' b lt e g h = subst (λ z. SoFar T z marks') (sym (taken_more ls c (Some b) lt e)) (more_so_far T (held (take c ls)) marks marks' b g h)
+pub root_in : (all : List Branch) (k : ℕ) (b : Branch) → k < length all → b ≡ get_or all k b → In b all
+root_in [] k b lt e = absurd (omega arith)
+root_in (x ∷ xs) zero b lt e = inl e
+root_in (x ∷ xs) (suc k) b lt e = inr (root_in xs k b (omega arith) e)
 
 -- the root of a held line is one of the roots
 pub root_held : (ls : List (Option Branch)) (c : ℕ) (b : Branch) → c < length ls → get_or ls c None ≡ Some b → In b (held ls)
@@ -184,10 +180,10 @@ marked_from n nodes us rs marks dg f h =
     rise d (end c) g m = tt
     rise d (node k) g m = (m, g.1)
 
-pub lines_done : (n : ℕ) (nodes : List Node) (us : List ℕ) (ls : List (Option Branch)) (c : ℕ) (marks : List ℕ) → length ls ≤ c → Diagram n nodes us
+pub lines_done : (n : ℕ) (nodes : List Node) (us : List ℕ) (ls : List (Option Branch)) (k : ℕ) (marks : List ℕ) → length (held ls) ≤ k → Diagram n nodes us
     → ((b : Branch) → In b (held ls) → From (λ i. In i us) (listed nodes) 0 b)
-    → SoFar (listed nodes) (held (take c ls)) marks → MarkedFrom n nodes (held ls) marks
-lines_done n nodes us ls c marks l dg f h = marked_from n nodes us (held ls) marks dg f (subst (λ z. SoFar (listed nodes) (held z) marks) (take_all c ls l) h)
+    → SoFar (listed nodes) (take k (held ls)) marks → MarkedFrom n nodes (held ls) marks
+lines_done n nodes us ls k marks l dg f h = marked_from n nodes us (held ls) marks dg f (subst (λ z. SoFar (listed nodes) z marks) (take_all k (held ls) l) h)
 
 -- the roots lead to marked nodes
 pub roots_marked : (n : ℕ) (nodes : List Node) (rs : List Branch) (marks : List ℕ) → MarkedFrom n nodes rs marks → (b : Branch) → In b rs → From (Live marks) (listed nodes) 0 b

@@ -44,11 +44,8 @@ pub fn mark_roots(nodes: &[Node], marks: &mut [u32], pins: u8, lines: &[Line])
     ensures { MarksRoots pins nodes.now lines.now marks.new }
 {
     clear(marks);
-    // `flatten` was tried: what the iterator of an option yields stayed open.
-    for line in lines {
-        if let Some(root) = *line {
-            mark_from(nodes, marks, pins, 0, root);
-        }
+    for root in lines.iter().flatten() {
+        mark_from(nodes, marks, pins, 0, *root);
     }
 }
 

@@ -1,28 +1,34 @@
-use Rattle.std.proofs.Common.{ℕ, ◌+◌, List, take, sym, subst, arith}
+use Rattle.std.proofs.Common.{length, subst, arith}
+use Rattle.std.specs.Prelude.{option_to_list}
+use Rattle.std.proofs.lemmas.List.{length_push}
+use Rattle.std.proofs.lemmas.Iterator.{YieldsList, YieldsList-from_slice}
+use Rattle.std.proofs.lemmas.Iterator.Consumers.{YieldsList-turn, YieldsList-end}
+use Rattle.std.proofs.lemmas.Iterator.Adapters.{YieldsList-from_flatten}
 use Rattle.model.specs.Lists.{held}
 use Rattle.model.specs.Diagrams.{listed}
-use Rattle.tables.proofs.Marks.{SoFar, none_so_far, line_empty, line_held, root_held, lines_done}
+use Rattle.tables.proofs.Marks.{none_so_far, root_next, root_in, lines_done}
+use Rattle.tables.proofs.Options.{option_yields, held_flat}
 use Rattle.tables.proofs.marking.mark_roots.Goals as goal
-use Rattle.tables.proofs.marking.mark_roots.Goals.{in-Some, in_default}
 
-pub loop-line-init : goal.loop-line-init
-loop-line-init c = λ us dg long f. none_so_far (listed c.args.nodes.now) c.clear.new.entries c.clear.ensures
+pub loop-root-init : goal.loop-root-init
+loop-root-init c = λ us dg long f. none_so_far (listed c.args.nodes.now) c.clear.new.entries c.clear.ensures
 
-pub loop-line-preserved : goal.loop-line-preserved
-loop-line-preserved c = λ us dg long f.
-    let T = listed c.args.nodes.now in
-    let ls = c.args.lines.now in
-    let k = c.loop-line.line-index in
-    let old = c.loop-line.invariant us dg (omega arith) f in
-    let P : List ℕ → Type 0 = λ m. SoFar T (held (take (k + 1) ls)) m in
-    elim c.match-line.branch [
-      | in-Some w ↦
-          subst P (sym w.marks-is)
-          (line_held T ls k c.loop-line.marks w.mark_from.new.marks w.in-Some.root (omega arith) w.in-Some.is
-          (w.mark_from.ensures us dg (omega arith) (f w.in-Some.root (root_held ls k w.in-Some.root (omega arith) w.in-Some.is))) old)
-      | in_default w ↦ subst P (sym w.marks-is) (line_empty T ls k c.loop-line.marks (omega arith) w.in_default.is old)
-    ]
+pub loop-root-preserved : goal.loop-root-preserved
+loop-root-preserved c =
+    let t =
+    YieldsList-turn (subst (YieldsList _ (λ y. y.now) _) (held_flat c.args.lines.now)
+    (YieldsList-from_flatten _ _ (λ y. y.now) option_to_list (λ x j b. option_yields x.now j b.0 b.1) (YieldsList-from_slice c.args.lines.now cc) (cc) (cc) (cc)))
+    c.loop-root.yielded _ c.loop-root.yielded_by _ _ c.in-Some.root c.in-Some.is c.next.ensures.steps in
+    λ us dg long f.
+    root_next (listed c.args.nodes.now) (held c.args.lines.now) (length c.loop-root.yielded) _ c.loop-root.marks c.mark_from.new.marks c.in-Some.root.now t.0 t.1 (length_push c.loop-root.yielded c.in-Some.root)
+    (c.mark_from.ensures us dg (omega arith) (f c.in-Some.root.now (root_in (held c.args.lines.now) (length c.loop-root.yielded) c.in-Some.root.now t.0 t.1)))
+    (c.loop-root.invariant us dg (omega arith) f)
 
 pub returns : goal.returns
-returns c = λ us dg long f.
-    lines_done c.args.pins c.args.nodes.now us c.args.lines.now c.loop-line.line-index c.loop-line.marks (omega arith) dg f (c.loop-line.invariant us dg long f)
+returns c =
+    let e =
+    YieldsList-end (subst (YieldsList _ (λ y. y.now) _) (held_flat c.args.lines.now)
+    (YieldsList-from_flatten _ _ (λ y. y.now) option_to_list (λ x j b. option_yields x.now j b.0 b.1) (YieldsList-from_slice c.args.lines.now cc) (cc) (cc) (cc)))
+    c.loop-root.yielded _ c.loop-root.yielded_by _ _ c.in-None.is c.next.ensures.steps in
+    λ us dg long f.
+    lines_done c.args.pins c.args.nodes.now us c.args.lines.now (length c.loop-root.yielded) c.loop-root.marks (let l = e.1 in omega arith) dg f (c.loop-root.invariant us dg long f)
