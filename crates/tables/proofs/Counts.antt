@@ -54,9 +54,6 @@ filled_more (y ∷ ys) (suc i) h =
 pub filled_take_le : (xs : List ℕ) (i : ℕ) → filled (take i xs) ≤ length xs
 filled_take_le xs i = omega (arith, filled_le (take i xs), length-take i xs)
 
-pub filled_take_index : (xs : List ℕ) (i : ℕ) → filled (take i xs) ≤ i
-filled_take_index xs i = omega (arith, filled_le (take i xs), length-take i xs)
-
 abbrev test : List ℕ → ℕ → Bool
 test xs i = ltb 0 (get_or xs i 0)
 

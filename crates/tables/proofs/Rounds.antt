@@ -1,9 +1,8 @@
 -- Probes that go round.
-use Rattle.std.proofs.Common.{◌≡◌, ℕ, ◌+◌, ◌-◌, ◌*◌, ◌/◌, ◌%◌, ◌<◌, List, length, get_or, ap, ◌∙◌, subst, mod-lt, mod-eq_of_lt, mul-one, mul-add, arith, below_more}
+use Rattle.std.proofs.Common.{◌≡◌, ℕ, ◌+◌, ◌-◌, ◌*◌, ◌/◌, ◌%◌, ◌<◌, List, length, get_or, ap, ◌∙◌, subst, mod-lt, mod-eq_of_lt, mul-one, mul-add, arith}
 use native.Mathlib.Nat.{add-mod-mod, mul-add-mod_self_left, mod-add-div}
 use Rattle.model.specs.declared.Node.{Node}
-use Rattle.model.specs.Diagrams.{listed}
-use Rattle.tables.specs.Indexes.{spread, probe, filled}
+use Rattle.tables.specs.Indexes.{spread, filled}
 use Rattle.tables.specs.Probes.{Missed}
 use Rattle.tables.proofs.Counts.{all_filled}
 
@@ -24,13 +23,6 @@ met s n p h =
 -- what holds at every probe holds everywhere
 pub all_round : (P : ℕ → Type 0) (s n : ℕ) → ((e : ℕ) → e < n → P ((s + e) % n)) → (p : ℕ) → p < n → P p
 all_round P s n h p l = subst P (met s n p l) (h ((p + (n - s % n)) % n) (let pos : 0 < n = omega arith in mod-lt _ pos))
-
-pub missed_more : (nodes : List Node) (index : List ℕ) (k : Node) (e a : ℕ) → a ≡ probe (length index) k e → Missed nodes index k e → (get_or index a 0 ≡ 0 → ⊥)
-    → (get_or index a 0 - 1 < length nodes → listed nodes (get_or index a 0 - 1) ≡ k → ⊥) → Missed nodes index k (e + 1)
-missed_more nodes index k e a here h ne df =
-    let P : ℕ → Type 0 = λ p. (0 < get_or index p 0) × (get_or index p 0 - 1 < length nodes → listed nodes (get_or index p 0 - 1) ≡ k → ⊥) in
-    let q : 0 < get_or index a 0 = omega arith in
-    below_more (λ i. P (probe (length index) k i)) e h (subst P here (q, df))
 
 -- an index that is not filled has an empty entry on the way
 pub some_empty : (nodes : List Node) (index : List ℕ) (k : Node) → filled index < length index → Missed nodes index k (length index) → ⊥

@@ -1,5 +1,5 @@
 -- Reading along an order.
-use Rattle.std.proofs.Common.{◌≡◌, ℕ, zero, suc, ◌+◌, ◌-◌, ◌/◌, ◌%◌, ◌^◌, ◌<◌, ◌≤◌, eqb, List, [], ◌∷◌, length, get_or, drop, sym, refl, ap, ◌∙◌, inl, inr, add-one, arith, drop-cons}
+use Rattle.std.proofs.Common.{◌≡◌, ℕ, zero, suc, ◌+◌, ◌<◌, ◌≤◌, List, [], ◌∷◌, length, get_or, drop, sym, refl, ap, ◌∙◌, inl, inr, add-one, arith, drop-cons}
 use Rattle.std.proofs.lemmas.List.{at_drop_all}
 use Rattle.model.specs.declared.Branch.{Branch}
 use Rattle.model.specs.Lists.{In}
@@ -20,7 +20,3 @@ walk_on n T order d b b' a l e =
 
 pub walk_end : (n : ℕ) (T : Table) (order : List ℕ) (d : ℕ) (b : Branch) (a : ℕ) → length order ≤ d → walk n T (drop d order) d b a ≡ code b
 walk_end n T order d b a l = at_drop_all (λ ps. walk n T ps d b a) order d l
-
--- the shift by which a pin is read is the pin's
-pub shift_pin : (n a p : ℕ) → eqb ((a / 2 ^ ((n - 1) - p)) % 2) 1 ≡ pin n a p
-shift_pin n a p = let q : (n - 1) - p ≡ n - suc p = omega arith in ap (λ k. eqb ((a / 2 ^ k) % 2) 1) q
