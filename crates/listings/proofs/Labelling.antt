@@ -1,6 +1,5 @@
 -- Labels that are the numbers of a listing.
 use Rattle.std.proofs.Common.{◌≡◌, ℕ, ◌≤◌, Bool, true, false, eqb, List, [], ◌∷◌, ◌++◌, map, length, get_or, Some, None, Option, sym, refl, ap, ◌∙◌, subst, ap₂, arith}
-use Rattle.std.proofs.lemmas.List.{get_or_past}
 use Rattle.model.specs.declared.Branch.{Branch}
 use Rattle.model.specs.declared.Branch.TheVariants.{End as end, Node as node}
 use Rattle.model.specs.declared.Node.{Node}
@@ -16,9 +15,6 @@ use Rattle.listings.specs.Numbers.{Numbered}
 use Rattle.listings.proofs.Shortening.{short_is}
 use Rattle.listings.proofs.Inverting.{spot_small}
 use Rattle.listings.proofs.Numbering.{numbering_few}
-
-pub relabel_past : (numbers : List ℕ) (b : Branch) (i : ℕ) → b ≡ node i → length numbers ≤ i → node 0 ≡ relabel numbers b
-relabel_past numbers b i e l = sym (ap (relabel numbers) e ∙ ap (λ x. node (short x)) (get_or_past numbers i 0 l))
 
 -- a node's branches are reached from where it is reached
 follow_on : (T : Table) (vs : List Bool) (b : Branch) (i : ℕ) (v : Bool) → follow T vs b ≡ node i → follow T (vs ++ (v ∷ [])) b ≡ side v (T i)

@@ -1,6 +1,6 @@
 -- Bytes written one behind the other.
-use Rattle.std.proofs.Common.{◌≡◌, ℕ, ◌+◌, ◌*◌, ◌<◌, ◌≤◌, List, [], ◌∷◌, ◌++◌, map, length, get_or, take, set, Some, None, Option, sym, refl, ap, ◌∙◌, subst, mul-suc, arith, length-append, take_all}
-use Rattle.std.proofs.lemmas.List.{append-nil, append_assoc, take_more, take_more_set, length-map, map_push, length-take-le}
+use Rattle.std.proofs.Common.{◌≡◌, ℕ, ◌+◌, ◌*◌, ◌<◌, ◌≤◌, List, [], ◌∷◌, ◌++◌, map, length, get_or, take, Some, None, Option, sym, refl, ap, ◌∙◌, subst, mul-suc, arith, length-append, take_all}
+use Rattle.std.proofs.lemmas.List.{append-nil, append_assoc, take_more, length-map, map_push, length-take-le}
 use Rattle.model.specs.declared.Branch.{Branch}
 use Rattle.model.specs.declared.Branch.TheVariants.{End as end, Node as node}
 use Rattle.model.specs.declared.Node.{Node}
@@ -8,27 +8,6 @@ use Rattle.model.specs.Lists.{flat, each}
 use Rattle.model.specs.Diagrams.{Table}
 use Rattle.model.specs.Listings.{two_bytes, reference, line_reference, node_bytes, bytes}
 use Rattle.listings.specs.Labels.{short, relabel, relabelled, labelled, Writes}
-
--- byte by byte
-abbrev pub PutSoFar : List ℕ → ℕ → List ℕ → ℕ → List ℕ → Type 0
-PutSoFar room at bs k room' = take (at + k) room' ≡ take at room ++ take k bs
-
-pub put_none : (room : List ℕ) (at : ℕ) (bs : List ℕ) → PutSoFar room at bs 0 room
-put_none room at bs = let z : at + 0 ≡ at = omega arith in ap (λ k. take k room) z ∙ sym (append-nil (take at room))
-
-pub put_one : (room : List ℕ) (at : ℕ) (bs : List ℕ) (k : ℕ) (room' : List ℕ) → k < length bs → at + k < length room' → PutSoFar room at bs k room' → PutSoFar room at bs (k + 1) (set room' (at + k) (get_or bs k 0))
-put_one room at bs k room' less inside far =
-    let z : at + (k + 1) ≡ at + k + 1 = omega arith in
-    ap (λ x. take x (set room' (at + k) (get_or bs k 0))) z
-    ∙ (take_more_set room' (at + k) (get_or bs k 0) inside
-    ∙ (ap (λ xs. xs ++ (get_or bs k 0 ∷ [])) far
-    ∙ (append_assoc (take at room) (take k bs) (get_or bs k 0 ∷ []) ∙ ap (λ xs. take at room ++ xs) (sym (take_more bs k 0 less)))))
-
-pub put_all : (room : List ℕ) (at : ℕ) (bs : List ℕ) (k : ℕ) (room' : List ℕ) (r : ℕ) → k ≡ length bs → r ≡ at + length bs → PutSoFar room at bs k room' → Writes room at bs room' r
-put_all room at bs k room' r e q far = record {
-  next_is = q;
-  front = ap (λ x. take x room') (q ∙ ap (λ x. at + x) (sym e)) ∙ (far ∙ ap (λ xs. take at room ++ xs) (take_all k bs (omega arith)));
-}
 
 pub writes_nothing : (room : List ℕ) (at : ℕ) → Writes room at [] room at
 writes_nothing room at = record { next_is = omega arith; front = sym (append-nil (take at room)) }

@@ -9,6 +9,7 @@ use tables::line::Line;
 use tables::reading::{node_at, step};
 
 // The number of a node as it is kept in a row of the work.
+// By `%`: `as` alone asks for a proof that the entry fits, and a row may hold anything.
 pub(crate) fn number_in(entry: u32) -> u16
     ensures { result ≡ short entry }
 {

@@ -14,11 +14,8 @@ fn relabel_branch(numbers: &[u32], branch: Branch) -> Branch
     match branch {
         Branch::End(_) => branch,
         Branch::Node(i) => {
-            if (i as usize) < numbers.len() {
-                Branch::Node(number_in(numbers[i as usize]))
-            } else {
-                Branch::Node(0)
-            }
+            let number = numbers.get(usize::from(i)).copied().unwrap_or(0);
+            Branch::Node(number_in(number))
         }
     }
 }
@@ -36,10 +33,7 @@ pub(crate) fn relabel_node(numbers: &[u32], node: Node) -> Node
 pub(crate) fn relabel_line(numbers: &[u32], line: Line) -> Line
     ensures { result ≡ each (relabel numbers.now) line }
 {
-    match line {
-        None => None,
-        Some(branch) => Some(relabel_branch(numbers, branch)),
-    }
+    line.map(|branch| relabel_branch(numbers, branch))
 }
 
 // The used number in two bytes, the higher first.
@@ -47,36 +41,33 @@ pub(crate) fn used_bytes(order: &[u32]) -> [u8; 2]
     requires { length order.now ≤ 4096 }
     ensures { result ≡ two_bytes (length order.now) }
 {
-    let used = order.len();
-    [(used / 256) as u8, (used % 256) as u8]
+    let used = order.len() as u16;
+    used.to_be_bytes()
 }
 
 // A reference: 0 and an end code, or 1 and a node number.
 fn branch_bytes(branch: Branch) -> [u8; 3]
     ensures { result ≡ reference branch }
 {
-    match branch {
-        Branch::End(c) => [0, (c / 256) as u8, (c % 256) as u8],
-        Branch::Node(i) => [1, (i / 256) as u8, (i % 256) as u8],
-    }
+    let (kind, number) = match branch {
+        Branch::End(c) => (0, c),
+        Branch::Node(i) => (1, i),
+    };
+    let [high, low] = number.to_be_bytes();
+    [kind, high, low]
 }
 
 pub(crate) fn line_bytes(line: Line) -> [u8; 3]
     ensures { result ≡ line_reference line }
 {
-    match line {
-        None => [0xFF, 0, 0],
-        Some(branch) => branch_bytes(branch),
-    }
+    line.map_or([0xFF, 0, 0], branch_bytes)
 }
 
 // A node: its place, then its low and its high reference.
 pub(crate) fn node_bytes(node: Node) -> [u8; 7]
     ensures { result ≡ node_bytes node }
 {
-    let low = branch_bytes(node.low);
-    let high = branch_bytes(node.high);
-    [
-        node.place, low[0], low[1], low[2], high[0], high[1], high[2],
-    ]
+    let [low, a, b] = branch_bytes(node.low);
+    let [high, c, d] = branch_bytes(node.high);
+    [node.place, low, a, b, high, c, d]
 }

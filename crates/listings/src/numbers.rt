@@ -35,8 +35,8 @@ fn invert(order: &[u32], numbers: &mut [u32])
     requires { length order.now ≤ 4096 }
     ensures { Inverts order.now numbers.old numbers.new }
 {
-    for k in 0..order.len() {
-        let i = order[k] as usize;
+    for (k, entry) in order.iter().enumerate() {
+        let i = *entry as usize;
         if i < numbers.len() {
             numbers[i] = k as u32;
         }

@@ -15,10 +15,9 @@ fn put(room: &mut [u8], at: usize, bytes: &[u8]) -> usize
     requires { at + length bytes.now ≤ length room.old }
     ensures { Writes room.old at bytes.now room.new result }
 {
-    for k in 0..bytes.len() {
-        room[at + k] = bytes[k];
-    }
-    at + bytes.len()
+    let next = at + bytes.len();
+    room[at..next].copy_from_slice(bytes);
+    next
 }
 
 // Writes the nodes of a list, under their numbers.
