@@ -1,6 +1,6 @@
 -- Fronts that grow by several nodes.
 use Rattle.std.proofs.Common.{None, Some, Option, ◌≡◌, ℕ, zero, suc, ◌+◌, ◌<◌, ◌≤◌, Bool, true, false, cond, not, eqb, List, [], ◌∷◌, ◌++◌, length, get_or, take, replicate, sym, refl, ap, ◌∙◌, subst, ap₂, arith, take_all}
-use Rattle.std.proofs.lemmas.List.{append-nil, append_assoc, take_more, get_or-take, length-take-le}
+use Rattle.std.proofs.lemmas.List.{append-nil, append_assoc, take_more}
 use Rattle.model.specs.declared.Branch.{Branch}
 use Rattle.model.specs.declared.Branch.TheVariants.{End as end, Node as node}
 use Rattle.model.specs.Lists.{In, without, once, flat, held}
@@ -36,9 +36,8 @@ once_again [] ys = refl
 once_again (x ∷ xs) ys = ap (λ z. x ∷ z) (without_once x (once eqb xs) ys ∙ ap (without eqb x) (once_again xs ys))
 
 -- one growth after another
-pub grown_more : (size : ℕ) (xs ys zs row : List ℕ) (count : ℕ) (seen row' : List ℕ) (count' : ℕ) (seen' : List ℕ) → Grown size xs ys row count seen → Grown size (take count row) zs row' count' seen'
-    → Grown size xs (ys ++ zs) row' count' seen'
-grown_more size xs ys zs row count seen row' count' seen' g h = record {
+pub grown_more : (size : ℕ) (xs ys zs is seen is' seen' : List ℕ) → Grown size xs ys is seen → Grown size is zs is' seen' → Grown size xs (ys ++ zs) is' seen'
+grown_more size xs ys zs is seen is' seen' g h = record {
   front = h.front;
   holds = h.holds ∙ (ap (λ l. once eqb (l ++ zs)) g.holds ∙ (once_again (xs ++ ys) zs ∙ ap (once eqb) (append_assoc xs ys zs)));
 }
@@ -49,91 +48,80 @@ cleared (suc n) zero = refl
 cleared (suc n) (suc i) = cleared n i
 
 -- the empty front
-pub grown_none : (size n : ℕ) (row seen : List ℕ) → seen ≡ replicate n 0 → length row ≡ size → length seen ≡ size → Grown size [] [] row 0 seen
-grown_none size n row seen e room wide = record {
+pub grown_none : (size n : ℕ) (is seen : List ℕ) → is ≡ [] → seen ≡ replicate n 0 → length seen ≡ size → Grown size [] [] is seen
+grown_none size n is seen none e wide = subst (λ (xs : List ℕ). Grown size [] [] xs seen) (sym none) (record {
   front = record {
-    room = room;
     wide = wide;
-    inside = omega arith;
     apart = tt;
     marked = λ i. (λ m. absurd m, λ l. let z : get_or seen i 0 ≡ 0 = ap (λ xs. get_or xs i 0) e ∙ cleared n i in absurd (omega arith));
   };
   holds = refl;
-}
+})
 
 two_branches : (b e : Branch) → nodes_of (b ∷ (e ∷ [])) ≡ nodes_of (b ∷ []) ++ nodes_of (e ∷ [])
 two_branches (end c) e = refl
 two_branches (node i) e = refl
 
 -- where a node leads
-pub both_met : (T : Table) (d i : ℕ) (low high : Branch) → low ≡ next T d false (node i) → high ≡ next T d true (node i)
-    → (row : List ℕ) (count : ℕ) (seen row₁ : List ℕ) (count₁ : ℕ) (seen₁ row₂ : List ℕ) (count₂ : ℕ) (seen₂ : List ℕ)
-    → Meets row count seen low row₁ count₁ seen₁ → Meets row₁ count₁ seen₁ high row₂ count₂ seen₂ → MeetsBoth T d i row count seen row₂ count₂ seen₂
-both_met T d i low high el eh row count seen row₁ count₁ seen₁ row₂ count₂ seen₂ a b size f small =
-    let g = a size f (subst (λ (x : Branch). Small size x) (sym el) (small false)) in
-    let h = b size g.front (subst (λ (x : Branch). Small size x) (sym eh) (small true)) in
-    let k = grown_more size (take count row) (nodes_of (low ∷ [])) (nodes_of (high ∷ [])) row₁ count₁ seen₁ row₂ count₂ seen₂ g h in
-    subst (λ (xs : List ℕ). Grown size (take count row) xs row₂ count₂ seen₂) (sym (two_branches low high) ∙ ap₂ (λ x y. nodes_of (x ∷ (y ∷ []))) el eh) k
+pub both_met : (T : Table) (d i : ℕ) (low high : Branch) → low ≡ next T d false (node i) → high ≡ next T d true (node i) → (size size₁ : ℕ) → size₁ ≡ size
+    → (is seen is₁ seen₁ is₂ seen₂ : List ℕ) → Meets size is seen low is₁ seen₁ → Meets size₁ is₁ seen₁ high is₂ seen₂ → MeetsBoth T d i size is seen is₂ seen₂
+both_met T d i low high el eh size size₁ same is seen is₁ seen₁ is₂ seen₂ a b f small =
+    let g = a f (subst (λ (x : Branch). Small size x) (sym el) (small false)) in
+    let c = subst (λ (x : ℕ). Meets x is₁ seen₁ high is₂ seen₂) same b in
+    let h = c g.front (subst (λ (x : Branch). Small size x) (sym eh) (small true)) in
+    let k = grown_more size is (nodes_of (low ∷ [])) (nodes_of (high ∷ [])) is₁ seen₁ is₂ seen₂ g h in
+    subst (λ (xs : List ℕ). Grown size is xs is₂ seen₂) (sym (two_branches low high) ∙ ap₂ (λ x y. nodes_of (x ∷ (y ∷ []))) el eh) k
 
 flat_push : (g : ℕ → List ℕ) (xs : List ℕ) (x : ℕ) → flat g (xs ++ (x ∷ [])) ≡ flat g xs ++ g x
 flat_push g [] x = append-nil (g x)
 flat_push g (y ∷ ys) x = ap (λ z. g y ++ z) (flat_push g ys x) ∙ sym (append_assoc (g y) (flat g ys) (g x))
 
-pub in_taken : (xs : List ℕ) (len k : ℕ) → k < len → len ≤ length xs → In (get_or xs k 0) (take len xs)
-in_taken xs len k h l =
-    subst (λ (x : ℕ). In x (take len xs)) (get_or-take len xs k 0 h) (in_get_or (take len xs) k (let e = length-take-le len xs l in omega arith))
-
 -- the next front, as far as the front was gone through
-abbrev pub SoFar : Table → ℕ → List ℕ → ℕ → ℕ → List ℕ → ℕ → List ℕ → Type 0
-SoFar T d front len k row count seen =
-    (size : ℕ) → length row ≡ size → length seen ≡ size → AllShort (take len front) → LeadsInside size T d (take len front) → Grown size [] (flat (leads T d) (take k front)) row count seen
+abbrev pub SoFar : Table → ℕ → List ℕ → ℕ → ℕ → List ℕ → List ℕ → Type 0
+SoFar T d front k size is seen = length seen ≡ size → AllShort front → LeadsInside size T d front → Grown size [] (flat (leads T d) (take k front)) is seen
 
-pub one_further : (T : Table) (d : ℕ) (front : List ℕ) (len k i : ℕ) (row : List ℕ) (count : ℕ) (seen row' : List ℕ) (count' : ℕ) (seen' : List ℕ)
-    → k < len → len ≤ length front → (get_or front k 0 < 65536 → i ≡ get_or front k 0) → length row' ≡ length row → length seen' ≡ length seen
-    → MeetsBoth T d i row count seen row' count' seen' → SoFar T d front len k row count seen → SoFar T d front len (k + 1) row' count' seen'
-one_further T d front len k i row count seen row' count' seen' less inside is same_row same_seen meets far size room wide short leading =
-    let m = in_taken front len k less inside in
-    let e = is (short (get_or front k 0) m) in
-    let g = far size (sym same_row ∙ room) (sym same_seen ∙ wide) short leading in
-    let h = meets size g.front (λ v. subst (λ (x : ℕ). Small size (next T d v (node x))) (sym e) (leading (get_or front k 0) m v)) in
-    subst (λ (xs : List ℕ). Grown size [] xs row' count' seen')
-    (ap (λ x. flat (leads T d) (take k front) ++ leads T d x) e
-    ∙ (sym (flat_push (leads T d) (take k front) (get_or front k 0)) ∙ ap (flat (leads T d)) (sym (take_more front k 0 (let z : k < length front = omega arith in z)))))
-    (grown_more size [] (flat (leads T d) (take k front)) (leads T d i) row count seen row' count' seen' g h)
+pub one_further : (T : Table) (d : ℕ) (front : List ℕ) (k i size size₁ : ℕ) (is seen is' seen' : List ℕ)
+    → k < length front → (get_or front k 0 < 65536 → i ≡ get_or front k 0) → size₁ ≡ size → length seen' ≡ length seen
+    → MeetsBoth T d i size₁ is seen is' seen' → SoFar T d front k size is seen → SoFar T d front (k + 1) size is' seen'
+one_further T d front k i size size₁ is seen is' seen' less numbered same same_seen meets far wide short leading =
+    let m = in_get_or front k less in
+    let e = numbered (short (get_or front k 0) m) in
+    let g = far (sym same_seen ∙ wide) short leading in
+    let meets' = subst (λ (x : ℕ). MeetsBoth T d i x is seen is' seen') same meets in
+    let h = meets' g.front (λ v. subst (λ (x : ℕ). Small size (next T d v (node x))) (sym e) (leading (get_or front k 0) m v)) in
+    subst (λ (xs : List ℕ). Grown size [] xs is' seen')
+    (ap (λ x. flat (leads T d) (take k front) ++ leads T d x) e ∙ (sym (flat_push (leads T d) (take k front) (get_or front k 0)) ∙ ap (flat (leads T d)) (sym (take_more front k 0 less))))
+    (grown_more size [] (flat (leads T d) (take k front)) (leads T d i) is seen is' seen' g h)
+
+-- the whole front was gone through
+pub front_done : (T : Table) (d : ℕ) (front : List ℕ) (k : ℕ) → length front ≤ k → (size : ℕ) (is seen : List ℕ) → SoFar T d front k size is seen → Advances T d front size is seen
+front_done T d front k all size is seen far wide short leading = subst (λ (xs : List ℕ). Grown size [] (flat (leads T d) xs) is seen) (take_all k front all) (far wide short leading)
 
 -- the front of lines, as far as they were gone through
-abbrev pub LinesSoFar : List (Option Branch) → ℕ → List ℕ → ℕ → List ℕ → Type 0
-LinesSoFar lines k row count seen =
-    (size : ℕ) → length row ≡ size → length seen ≡ size → ((b : Branch) → In b (held lines) → Small size b) → Grown size [] (nodes_of (held (take k lines))) row count seen
+abbrev pub LinesSoFar : List (Option Branch) → ℕ → ℕ → List ℕ → List ℕ → Type 0
+LinesSoFar lines k size is seen = length seen ≡ size → ((b : Branch) → In b (held lines) → Small size b) → Grown size [] (nodes_of (held (take k lines))) is seen
 
-roots_push : (xs : List (Option Branch)) (x : Option Branch) → nodes_of (held ((xs ++ (x ∷ [])))) ≡ nodes_of (held xs) ++ nodes_of (held ((x ∷ [])))
+roots_push : (xs : List (Option Branch)) (x : Option Branch) → nodes_of (held (xs ++ (x ∷ []))) ≡ nodes_of (held xs) ++ nodes_of (held (x ∷ []))
 roots_push [] x = refl
 roots_push (None ∷ xs) x = roots_push xs x
 roots_push (Some (end c) ∷ xs) x = roots_push xs x
 roots_push (Some (node i) ∷ xs) x = ap (λ z. i ∷ z) (roots_push xs x)
 
-module _ (lines : List (Option Branch)) (k : ℕ) (less : k < length lines) (row : List ℕ) (count : ℕ) (seen : List ℕ) where
-  pub line_passed : get_or lines k None ≡ None → LinesSoFar lines k row count seen → LinesSoFar lines (k + 1) row count seen
-  line_passed e far size room wide small =
-      subst (λ (xs : List ℕ). Grown size [] xs row count seen)
-      (sym (ap (λ l. nodes_of (held l)) (take_more lines k None less) ∙ (roots_push (take k lines) (get_or lines k None) ∙ (ap (λ l. nodes_of (held (take k lines)) ++ nodes_of (held ((l ∷ [])))) e ∙ append-nil (nodes_of (held (take k lines)))))))
-      (far size room wide small)
+module _ (lines : List (Option Branch)) (k : ℕ) (less : k < length lines) (size : ℕ) (is seen : List ℕ) where
+  one_more : (l : Option Branch) → get_or lines k None ≡ l → nodes_of (held (take (k + 1) lines)) ≡ nodes_of (held (take k lines)) ++ nodes_of (held (l ∷ []))
+  one_more l e = ap (λ ls. nodes_of (held ls)) (take_more lines k None less) ∙ (roots_push (take k lines) (get_or lines k None) ∙ ap (λ x. nodes_of (held (take k lines)) ++ nodes_of (held (x ∷ []))) e)
 
-  pub line_met : (b : Branch) → get_or lines k None ≡ Some b → (row' : List ℕ) (count' : ℕ) (seen' : List ℕ) → length row' ≡ length row → length seen' ≡ length seen
-      → Meets row count seen b row' count' seen' → LinesSoFar lines k row count seen → LinesSoFar lines (k + 1) row' count' seen'
-  line_met b e row' count' seen' same_row same_seen meets far size room wide small =
-      let g = far size (sym same_row ∙ room) (sym same_seen ∙ wide) small in
-      let h = meets size g.front (small b (root_held lines k b less e)) in
-      subst (λ (xs : List ℕ). Grown size [] xs row' count' seen')
-      (sym (ap (λ l. nodes_of (held l)) (take_more lines k None less) ∙ (roots_push (take k lines) (get_or lines k None) ∙ ap (λ l. nodes_of (held (take k lines)) ++ nodes_of (held ((l ∷ [])))) e)))
-      (grown_more size [] (nodes_of (held (take k lines))) (nodes_of (b ∷ [])) row count seen row' count' seen' g h)
+  pub line_passed : get_or lines k None ≡ None → LinesSoFar lines k size is seen → LinesSoFar lines (k + 1) size is seen
+  line_passed e far wide small = subst (λ (xs : List ℕ). Grown size [] xs is seen) (sym (one_more None e ∙ append-nil (nodes_of (held (take k lines))))) (far wide small)
+
+  pub line_met : (b : Branch) → get_or lines k None ≡ Some b → (size₁ : ℕ) → size₁ ≡ size → (is' seen' : List ℕ) → length seen' ≡ length seen
+      → Meets size₁ is seen b is' seen' → LinesSoFar lines k size is seen → LinesSoFar lines (k + 1) size is' seen'
+  line_met b e size₁ same is' seen' same_seen meets far wide small =
+      let g = far (sym same_seen ∙ wide) small in
+      let meets' = subst (λ (x : ℕ). Meets x is seen b is' seen') same meets in
+      let h = meets' g.front (small b (root_held lines k b less e)) in
+      subst (λ (xs : List ℕ). Grown size [] xs is' seen') (sym (one_more (Some b) e)) (grown_more size [] (nodes_of (held (take k lines))) (nodes_of (b ∷ [])) is seen is' seen' g h)
 
 -- all lines were gone through
-pub lines_met : (lines : List (Option Branch)) (k : ℕ) → length lines ≤ k → (row : List ℕ) (count : ℕ) (seen : List ℕ) → LinesSoFar lines k row count seen → MeetsLines lines row count seen
-lines_met lines k all row count seen far size room wide small =
-    subst (λ (ls : List (Option Branch)). Grown size [] (nodes_of (held ls)) row count seen) (take_all k lines all) (far size room wide small)
-
--- so was the front
-pub front_done : (T : Table) (d : ℕ) (front : List ℕ) (len k : ℕ) → k ≡ len → (row : List ℕ) (count : ℕ) (seen : List ℕ) → SoFar T d front len k row count seen → Advances T d (take len front) row count seen
-front_done T d front len k e row count seen far size room wide short leading =
-    subst (λ (x : ℕ). Grown size [] (flat (leads T d) (take x front)) row count seen) e (far size room wide short leading)
+pub lines_met : (lines : List (Option Branch)) (k : ℕ) → length lines ≤ k → (size : ℕ) (is seen : List ℕ) → LinesSoFar lines k size is seen → MeetsLines lines size is seen
+lines_met lines k all size is seen far wide small = subst (λ (ls : List (Option Branch)). Grown size [] (nodes_of (held ls)) is seen) (take_all k lines all) (far wide small)

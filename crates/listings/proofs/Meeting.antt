@@ -1,6 +1,6 @@
 -- A front that meets one more branch.
-use Rattle.std.proofs.Common.{◌≡◌, ℕ, ◌+◌, ◌<◌, ◌≤◌, Bool, true, cond, not, eqb, List, [], ◌∷◌, ◌++◌, length, get_or, take, set, sym, refl, ap, ◌∙◌, subst, ap₂, inl, inr, arith, length-set}
-use Rattle.std.proofs.lemmas.List.{append-nil, take_more_set, length-take-le}
+use Rattle.std.proofs.Common.{◌≡◌, ℕ, ◌<◌, ◌≤◌, Bool, true, cond, not, eqb, List, [], ◌∷◌, ◌++◌, length, get_or, set, sym, refl, ap, ◌∙◌, subst, ap₂, inl, inr, arith, length-set}
+use Rattle.std.proofs.lemmas.List.{append-nil}
 use Rattle.std.proofs.lemmas.Bool.{eq-eqb, not_from_false}
 use Rattle.model.specs.Lists.{In, Apart, keep, without, once}
 use Rattle.model.proofs.Lists.{in-++, in-++-left, in-++-right, apart-++, pigeonhole, in_cast}
@@ -31,78 +31,68 @@ once_known (x ∷ xs) i a (inl e) =
     ∙ (ap₂ ◌++◌ (without_absent x xs a.0) (ap (λ q. cond (not q) (i ∷ []) []) (eq-eqb x i (sym e))) ∙ append-nil xs)))
 once_known (x ∷ xs) i a (inr m) = ap (λ z. x ∷ z) (ap (without eqb x) (once_known xs i a.1 m) ∙ without_absent x xs a.0)
 
-module _ (size : ℕ) (row : List ℕ) (count : ℕ) (seen : List ℕ) (f : Front size row count seen) where
+module _ (size : ℕ) (is seen : List ℕ) (f : Front size is seen) where
   -- an end adds nothing
-  pub met_end : Grown size (take count row) [] row count seen
-  met_end = record { front = f; holds = sym (ap (once eqb) (append-nil (take count row)) ∙ once_apart eqb tells_eqb (take count row) f.apart) }
+  met_end : Grown size is [] is seen
+  met_end = record { front = f; holds = sym (ap (once eqb) (append-nil is) ∙ once_apart eqb tells_eqb is f.apart) }
 
   module _ (i : ℕ) where
     -- a node that was seen is there
-    pub met_known : 0 < get_or seen i 0 → Grown size (take count row) (i ∷ []) row count seen
-    met_known l = record { front = f; holds = sym (once_known (take count row) i f.apart ((f.marked i).1 l)) }
+    met_known : 0 < get_or seen i 0 → Grown size is (i ∷ []) is seen
+    met_known l = record { front = f; holds = sym (once_known is i f.apart ((f.marked i).1 l)) }
 
     module _ (small : i < size) (free : get_or seen i 0 ≡ 0) where
-      absent : In i (take count row) → ⊥
+      absent : In i is → ⊥
       absent m = let l = (f.marked i).0 m in omega arith
 
       -- there is room for it, since a front has each node of the table at most once
-      pub met_room : length row ≤ count → ⊥
-      met_room full =
-          let in_size : (x : ℕ) → In x (i ∷ take count row) → In x (marked (λ _. true) size) = λ x m. in_marked (λ _. true) size x (below x m) refl in
-          let few = pigeonhole (i ∷ take count row) (marked (λ _. true) size) (absent, f.apart) in_size in
+      met_room : length is < size
+      met_room =
+          let in_size : (x : ℕ) → In x (i ∷ is) → In x (marked (λ _. true) size) = λ x m. in_marked (λ _. true) size x (below x m) refl in
+          let few = pigeonhole (i ∷ is) (marked (λ _. true) size) (absent, f.apart) in_size in
           let whole = length_marked (λ _. true) size (λ _ _. refl) in
-          let long = length-take-le count row (let r = f.room in let k = f.inside in omega arith) in
-          let r = f.room in
           omega arith
         where
-          below : (x : ℕ) → In x (i ∷ take count row) → x < size
+          below : (x : ℕ) → In x (i ∷ is) → x < size
           below x (inl e) = subst (λ (y : ℕ). y < size) (sym e) small
           below x (inr m) = let l = live_inside seen x ((f.marked x).0 m) in let w = f.wide in omega arith
 
-      pub met_new : count < length row → Grown size (take count row) (i ∷ []) (set row count i) (count + 1) (set seen i 1)
-      met_new room = record {
+      met_new : Grown size is (i ∷ []) (is ++ (i ∷ [])) (set seen i 1)
+      met_new = record {
         front = record {
-          room = length-set row count i ∙ f.room;
           wide = length-set seen i 1 ∙ f.wide;
-          inside = (let r = f.room in omega arith);
-          apart = subst (λ (xs : List ℕ). Apart xs) (sym taken) (apart_push (take count row) i f.apart absent);
+          apart = apart_push is i f.apart absent;
           marked = λ j. (into j, back j);
         };
-        holds = taken ∙ sym (once_apart eqb tells_eqb (take count row ++ (i ∷ [])) (apart_push (take count row) i f.apart absent));
+        holds = sym (once_apart eqb tells_eqb (is ++ (i ∷ [])) (apart_push is i f.apart absent));
       }
         where
-          taken : take (count + 1) (set row count i) ≡ take count row ++ (i ∷ [])
-          taken = take_more_set row count i room
-
           inside : i < length seen
           inside = let w = f.wide in omega arith
 
-          into : (j : ℕ) → In j (take (count + 1) (set row count i)) → 0 < get_or (set seen i 1) j 0
+          into : (j : ℕ) → In j (is ++ (i ∷ [])) → 0 < get_or (set seen i 1) j 0
           into j m =
-              elim (in-++ j (take count row) (i ∷ []) (subst (λ (xs : List ℕ). In j xs) taken m)) [
+              elim (in-++ j is (i ∷ []) m) [
                 | inl k ↦ live_set seen i 1 j (omega arith) ((f.marked j).0 k)
                 | inr k ↦ elim k [ inl e ↦ subst (λ (x : ℕ). 0 < get_or (set seen i 1) x 0) (sym e) (set_live seen i inside) | inr z ↦ absurd z ]
               ]
 
-          back : (j : ℕ) → 0 < get_or (set seen i 1) j 0 → In j (take (count + 1) (set row count i))
-          back j l =
-              subst (λ (xs : List ℕ). In j xs) (sym taken)
-              (elim (live_or seen i j l) [ inl e ↦ in-++-right j (take count row) (i ∷ []) (inl e) | inr k ↦ in-++-left j (take count row) (i ∷ []) ((f.marked j).1 k) ])
+          back : (j : ℕ) → 0 < get_or (set seen i 1) j 0 → In j (is ++ (i ∷ []))
+          back j l = elim (live_or seen i j l) [ inl e ↦ in-++-right j is (i ∷ []) (inl e) | inr k ↦ in-++-left j is (i ∷ []) ((f.marked j).1 k) ]
 
 -- The same of a branch.
-module _ (row : List ℕ) (count : ℕ) (seen : List ℕ) (b : Branch) where
-  pub meets_end : (c : ℕ) → b ≡ end c → Meets row count seen b row count seen
-  meets_end c e = subst (λ (y : Branch). Meets row count seen y row count seen) (sym e) (λ size f small. met_end size row count seen f)
+module _ (size : ℕ) (is seen : List ℕ) (b : Branch) where
+  pub meets_end : (c : ℕ) → b ≡ end c → Meets size is seen b is seen
+  meets_end c e = subst (λ (y : Branch). Meets size is seen y is seen) (sym e) (λ f small. met_end size is seen f)
 
   module _ (i : ℕ) (e : b ≡ node i) where
-    pub meets_outside : length seen ≤ i → Meets row count seen b row count seen
-    meets_outside l = subst (λ (y : Branch). Meets row count seen y row count seen) (sym e) (λ size f small. let w = f.wide in absurd (omega arith))
+    pub meets_outside : length seen ≤ i → Meets size is seen b is seen
+    meets_outside l = subst (λ (y : Branch). Meets size is seen y is seen) (sym e) (λ f small. let w = f.wide in absurd (omega arith))
 
-    pub meets_known : (get_or seen i 0 ≡ 0 → ⊥) → Meets row count seen b row count seen
-    meets_known l = subst (λ (y : Branch). Meets row count seen y row count seen) (sym e) (λ size f small. met_known size row count seen f i (omega arith))
+    pub meets_known : (get_or seen i 0 ≡ 0 → ⊥) → Meets size is seen b is seen
+    meets_known l = subst (λ (y : Branch). Meets size is seen y is seen) (sym e) (λ f small. met_known size is seen f i (omega arith))
 
-    pub meets_full : get_or seen i 0 ≡ 0 → length row ≤ count → Meets row count seen b row count seen
-    meets_full free full = subst (λ (y : Branch). Meets row count seen y row count seen) (sym e) (λ size f small. absurd (met_room size row count seen f i small free full))
-
-    pub meets_new : get_or seen i 0 ≡ 0 → count < length row → Meets row count seen b (set row count i) (count + 1) (set seen i 1)
-    meets_new free room = subst (λ (y : Branch). Meets row count seen y (set row count i) (count + 1) (set seen i 1)) (sym e) (λ size f small. met_new size row count seen f i small free room)
+    pub meets_new : get_or seen i 0 ≡ 0 → (is' : List ℕ) → (length is < size → is' ≡ is ++ (i ∷ [])) → Meets size is seen b is' (set seen i 1)
+    meets_new free is' pushed =
+        subst (λ (y : Branch). Meets size is seen y is' (set seen i 1)) (sym e)
+        (λ f small. subst (λ (xs : List ℕ). Grown size is (i ∷ []) xs (set seen i 1)) (sym (pushed (met_room size is seen f i small free))) (met_new size is seen f i small free))

@@ -1,6 +1,6 @@
 -- Numbering from a front of nodes, each once.
-use Rattle.std.proofs.Common.{◌≡◌, ℕ, zero, suc, ◌+◌, ◌-◌, ◌<◌, ◌≤◌, Bool, true, false, cond, eqb, List, [], ◌∷◌, ◌++◌, map, length, take, Option, sym, refl, ap, ◌∙◌, subst, ap₂, inl, inr, arith, length-append}
-use Rattle.std.proofs.lemmas.List.{append-nil, append_assoc, length-take-le, take_at}
+use Rattle.std.proofs.Common.{◌≡◌, ℕ, zero, suc, ◌+◌, ◌-◌, ◌<◌, ◌≤◌, Bool, true, false, cond, eqb, List, [], ◌∷◌, ◌++◌, map, length, Option, sym, refl, ap, ◌∙◌, subst, ap₂, inl, inr, arith, length-append}
+use Rattle.std.proofs.lemmas.List.{append-nil, append_assoc}
 use Rattle.model.specs.declared.Branch.{Branch}
 use Rattle.model.specs.declared.Branch.TheVariants.{End as end, Node as node}
 use Rattle.model.specs.declared.Node.{Node}
@@ -120,37 +120,35 @@ module _ (n : ℕ) (nodes : List Node) (us : List ℕ) (d : ℕ) (is : List ℕ)
           ]
 
 -- no place is left
-pub numbers_none : (n : ℕ) (nodes : List Node) (d : ℕ) (is : List ℕ) (rows : ℕ) (order : List ℕ) (count : ℕ) → n ≤ d → NumbersFrom n nodes d is rows order count order count
-numbers_none n nodes d is rows order count late us ready long room =
+pub numbers_none : (n : ℕ) (nodes : List Node) (d : ℕ) (is : List ℕ) (rows room : ℕ) (order : List ℕ) → n ≤ d → NumbersFrom n nodes d is rows room order order
+numbers_none n nodes d is rows room order late us ready long enough =
     let z : n - d ≡ 0 = omega arith in
-    sym (ap (λ h. take count order ++ numbering (listed nodes) h d (map node is)) z ∙ append-nil (take count order))
+    sym (ap (λ h. order ++ numbering (listed nodes) h d (map node is)) z ∙ append-nil order)
 
 -- one place, and then the others
-pub numbers_place : (n : ℕ) (nodes : List Node) (d : ℕ) (is : List ℕ) (rows : ℕ) (order : List ℕ) (count : ℕ) (order₁ : List ℕ) (count₁ : ℕ) (row : List ℕ) (met : ℕ) (seen order₂ : List ℕ) (count₂ : ℕ)
-    → d < n → length row ≡ rows → length seen ≡ rows → count ≤ length order → length order₁ ≡ length order → count₁ ≤ length order₁
-    → PicksAll (listed nodes) d is order count order₁ count₁ → Advances (listed nodes) d is row met seen → NumbersFrom n nodes (d + 1) (take met row) rows order₁ count₁ order₂ count₂
-    → NumbersFrom n nodes d is rows order count order₂ count₂
-numbers_place n nodes d is rows order count order₁ count₁ row met seen order₂ count₂ small room wide fits same fits₁ picks advances rest us ready long enough =
+pub numbers_place : (n : ℕ) (nodes : List Node) (d : ℕ) (is : List ℕ) (rows room : ℕ) (order order₁ : List ℕ) (rows₁ : ℕ) (ks seen : List ℕ) (rows₂ room₁ : ℕ) (order₂ : List ℕ)
+    → d < n → rows₁ ≡ rows → length seen ≡ rows → rows₂ ≡ rows → room₁ ≡ room
+    → PicksAll (listed nodes) d is room order order₁ → Advances (listed nodes) d is rows₁ ks seen → NumbersFrom n nodes (d + 1) ks rows₂ room₁ order₁ order₂
+    → NumbersFrom n nodes d is rows room order order₂
+numbers_place n nodes d is rows room order order₁ rows₁ ks seen rows₂ room₁ order₂ small same₁ wide same₂ same picks advances rest us ready long enough =
     let T = listed nodes in
     let h = n - suc d in
-    let ks = take met row in
     let e : n - d ≡ suc h = omega arith in
     let e₁ : n - (d + 1) ≡ h = omega arith in
     let e₂ : d + 1 ≡ suc d = omega arith in
     let short = front_short n nodes us d is ready in
-    let g = advances (length nodes) (room ∙ long) (wide ∙ long) short (front_leads n nodes us d is ready) in
+    let leading = subst (λ (x : ℕ). LeadsInside x T d is) (sym (same₁ ∙ long)) (front_leads n nodes us d is ready) in
+    let g = advances (wide ∙ sym same₁) short leading in
     let step = ap (λ k. numbering T k d (map node is)) e ∙ numbering_step T h d is ks ready.apart g.holds in
     let l₀ = ap length step in
     let l₁ = length-append (keep (asks T d) is) (numbering T h (suc d) (map node ks)) in
     let p = picks short (omega arith) in
     let p₁ = ap length p in
-    let p₂ = length-append (take count order) (keep (asks T d) is) in
-    let t₀ = length-take-le count order fits in
-    let t₁ = length-take-le count₁ order₁ fits₁ in
+    let p₂ = length-append order (keep (asks T d) is) in
     let next = ap₂ (λ k q. numbering T k q (map node ks)) e₁ e₂ in
     let next_long = ap length next in
-    let r = rest us (subst (λ (q : ℕ). Ready n nodes us q ks) (sym e₂) (ready_next n nodes us d is ready ks g.holds)) long (omega arith) in
-    r ∙ (ap₂ ◌++◌ p next ∙ (append_assoc (take count order) (keep (asks T d) is) (numbering T h (suc d) (map node ks)) ∙ ap (λ xs. take count order ++ xs) (sym step)))
+    let r = rest us (subst (λ (q : ℕ). Ready n nodes us q ks) (sym e₂) (ready_next n nodes us d is ready ks g.holds)) (same₂ ∙ long) (omega arith) in
+    r ∙ (ap₂ ◌++◌ p next ∙ (append_assoc order (keep (asks T d) is) (numbering T h (suc d) (map node ks)) ∙ ap (λ xs. order ++ xs) (sym step)))
 
 -- the numbers of a numbering are few, since each is a node of the table, and none stands twice
 pub numbering_few : (n : ℕ) (nodes : List Node) (us : List ℕ) → Diagram n nodes us → (roots : List Branch) → ((b : Branch) → In b roots → From (λ i. In i us) (listed nodes) 0 b)
@@ -173,20 +171,20 @@ numbering_few n nodes us dg roots f = (reach.apart, below, few)
 
 -- numbering from the front of the lines
 pub numbers_lines : (n : ℕ) (nodes : List Node) (us : List ℕ) → Diagram n nodes us → length nodes ≤ 4096 → (lines : List (Option Branch)) → ((b : Branch) → In b (held lines) → From (λ i. In i us) (listed nodes) 0 b)
-    → (row : List ℕ) (met : ℕ) (seen order order' : List ℕ) (count : ℕ) → length row ≡ length nodes → length seen ≡ length nodes → length order ≡ length nodes
-    → MeetsLines lines row met seen → NumbersFrom n nodes 0 (take met row) (length nodes) order 0 order' count → take count order' ≡ numbering (listed nodes) n 0 (held lines)
-numbers_lines n nodes us dg few lines f row met seen order order' count room wide long meets numbers =
+    → (rows rows₁ room : ℕ) (is seen none order : List ℕ) → rows ≡ length nodes → rows₁ ≡ length nodes → room ≡ length nodes → length seen ≡ length nodes → none ≡ []
+    → MeetsLines lines rows is seen → NumbersFrom n nodes 0 is rows₁ room none order → order ≡ numbering (listed nodes) n 0 (held lines)
+numbers_lines n nodes us dg few lines f rows rows₁ room is seen none order same same₁ wide_order wide empty meets numbers =
     let T = listed nodes in
-    let g = meets (length nodes) room wide (λ b m. small_from n nodes us dg 0 b (f b m)) in
-    let ks = take met row in
+    let g = meets (wide ∙ sym same) (λ b m. subst (λ (x : ℕ). Small x b) (sym same) (small_from n nodes us dg 0 b (f b m))) in
     let z : n - 0 ≡ n = omega arith in
-    let same : numbering T n 0 (held lines) ≡ numbering T (n - 0) 0 (map node ks) = numbering_front T n 0 (held lines) ks g.holds ∙ ap (λ h. numbering T h 0 (map node ks)) (sym z) in
+    let step : numbering T n 0 (held lines) ≡ numbering T (n - 0) 0 (map node is) = numbering_front T n 0 (held lines) is g.holds ∙ ap (λ h. numbering T h 0 (map node is)) (sym z) in
     let w = numbering_few n nodes us dg (held lines) f in
-    let l = ap length same in
+    let l = ap length step in
+    let l₁ = ap length empty in
     let m = w.2 in
-    numbers us (ready g.holds) refl (omega arith) ∙ sym same
+    numbers us (ready g.holds) same₁ (omega arith) ∙ (ap (λ xs. xs ++ numbering T (n - 0) 0 (map node is)) empty ∙ sym step)
   where
-    ready : take met row ≡ once eqb (nodes_of (held lines)) → Ready n nodes us 0 (take met row)
+    ready : is ≡ once eqb (nodes_of (held lines)) → Ready n nodes us 0 is
     ready e = record {
       diagram = dg;
       few = few;
@@ -194,14 +192,12 @@ numbers_lines n nodes us dg few lines f row met seen order order' count room wid
       from = λ i m. f (node i) (in_nodes i (held lines) (from_once eqb tells_eqb i (nodes_of (held lines)) (subst (λ (xs : List ℕ). In i xs) e m)));
     }
 
--- the list cut to its count, and the numbers of its nodes
+-- the nodes in order, and their numbers
 pub numbered_nodes : (n : ℕ) (nodes : List Node) (us : List ℕ) → Diagram n nodes us → length nodes ≤ 4096 → (lines : List (Option Branch)) → ((b : Branch) → In b (held lines) → From (λ i. In i us) (listed nodes) 0 b)
-    → (order' : List ℕ) (count : ℕ) → take count order' ≡ numbering (listed nodes) n 0 (held lines) → (cut rest : List ℕ) → order' ≡ cut ++ rest → length cut ≡ count
-    → (numbers numbers' : List ℕ) → length numbers ≡ length nodes → Inverts cut numbers numbers' → Numbered n nodes (held lines) cut numbers'
-numbered_nodes n nodes us dg few lines f order' count e cut rest split long numbers numbers' wide inverts =
-    let is : cut ≡ numbering (listed nodes) n 0 (held lines) = sym (ap (take count) split ∙ take_at cut rest count long) ∙ e in
+    → (order : List ℕ) → order ≡ numbering (listed nodes) n 0 (held lines) → (numbers numbers' : List ℕ) → length numbers ≡ length nodes → Inverts order numbers numbers' → Numbered n nodes (held lines) order numbers'
+numbered_nodes n nodes us dg few lines f order is numbers numbers' wide inverts =
     let w = numbering_few n nodes us dg (held lines) f in
-    let a : Apart cut = subst (λ (xs : List ℕ). Apart xs) (sym is) w.0 in
+    let a : Apart order = subst (λ (xs : List ℕ). Apart xs) (sym is) w.0 in
     let l = ap length is in
     let m = w.2 in
     record {

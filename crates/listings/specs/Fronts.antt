@@ -1,5 +1,5 @@
 -- The front of nodes that lines lead to when the first pins are fixed, each node once.
-use Rattle.std.specs.Prelude.{◌≡◌, ℕ, ◌+◌, ◌<◌, ◌≤◌, Bool, true, false, ◌↔◌, List, [], ◌∷◌, ◌++◌, length, take, Option, ◌==◌, nat_eq, slice_index}
+use Rattle.std.specs.Prelude.{◌≡◌, ℕ, ◌+◌, ◌<◌, ◌≤◌, Bool, true, false, ◌↔◌, List, [], ◌∷◌, ◌++◌, length, Option, ◌==◌, nat_eq, slice_index}
 use Rattle.model.specs.declared.Branch.{Branch}
 use Rattle.model.specs.declared.Branch.TheVariants.{End as end, Node as node}
 use Rattle.model.specs.Lists.{In, Apart, keep, once, flat, held}
@@ -24,33 +24,30 @@ abbrev pub Small : ℕ → Branch → Type 0
 Small size (end c) = Unit {0}
 Small size (node i) = i < size
 
--- the first numbers of a row are a front: nodes of a table of that size, each once, and just these are marked as seen
-pub record Front (size : ℕ) (row : List ℕ) (count : ℕ) (seen : List ℕ) : Type 0 where
-  pub room : length row ≡ size
+-- the nodes so far in a row are a front: nodes of a table of that size, each once, and just these are marked as seen
+pub record Front (size : ℕ) (is seen : List ℕ) : Type 0 where
   pub wide : length seen ≡ size
-  pub inside : count ≤ size
-  pub apart : Apart (take count row)
-  pub marked : (i : ℕ) → In i (take count row) ↔ (0 < slice_index seen i)
+  pub apart : Apart is
+  pub marked : (i : ℕ) → In i is ↔ (0 < slice_index seen i)
 
 -- a front that is grown by some nodes: those that are not there yet follow, each once
-pub record Grown (size : ℕ) (before more : List ℕ) (row : List ℕ) (count : ℕ) (seen : List ℕ) : Type 0 where
-  pub front : Front size row count seen
-  pub holds : take count row ≡ once nat_eq (before ++ more)
+pub record Grown (size : ℕ) (before more is seen : List ℕ) : Type 0 where
+  pub front : Front size is seen
+  pub holds : is ≡ once nat_eq (before ++ more)
 
--- meeting one more branch
-abbrev pub Meets : List ℕ → ℕ → List ℕ → Branch → List ℕ → ℕ → List ℕ → Type 0
-Meets row count seen b row' count' seen' =
-    (size : ℕ) → Front size row count seen → Small size b → Grown size (take count row) (nodes_of (b ∷ [])) row' count' seen'
+-- Meeting, in a row with room for as many nodes as the table has.
 
--- meeting where a node leads
-abbrev pub MeetsBoth : Table → ℕ → ℕ → List ℕ → ℕ → List ℕ → List ℕ → ℕ → List ℕ → Type 0
-MeetsBoth T d i row count seen row' count' seen' =
-    (size : ℕ) → Front size row count seen → ((v : Bool) → Small size (next T d v (node i))) → Grown size (take count row) (leads T d i) row' count' seen'
+-- one more branch
+abbrev pub Meets : ℕ → List ℕ → List ℕ → Branch → List ℕ → List ℕ → Type 0
+Meets size is seen b is' seen' = Front size is seen → Small size b → Grown size is (nodes_of (b ∷ [])) is' seen'
 
--- meeting the roots of lines
-abbrev pub MeetsLines : List (Option Branch) → List ℕ → ℕ → List ℕ → Type 0
-MeetsLines lines row count seen =
-    (size : ℕ) → length row ≡ size → length seen ≡ size → ((b : Branch) → In b (held lines) → Small size b) → Grown size [] (nodes_of (held lines)) row count seen
+-- where a node leads
+abbrev pub MeetsBoth : Table → ℕ → ℕ → ℕ → List ℕ → List ℕ → List ℕ → List ℕ → Type 0
+MeetsBoth T d i size is seen is' seen' = Front size is seen → ((v : Bool) → Small size (next T d v (node i))) → Grown size is (leads T d i) is' seen'
+
+-- the roots of lines
+abbrev pub MeetsLines : List (Option Branch) → ℕ → List ℕ → List ℕ → Type 0
+MeetsLines lines size is seen = length seen ≡ size → ((b : Branch) → In b (held lines) → Small size b) → Grown size [] (nodes_of (held lines)) is seen
 
 -- every node of a front leads to nodes of a table of that size
 abbrev pub LeadsInside : ℕ → Table → ℕ → List ℕ → Type 0
@@ -61,15 +58,13 @@ abbrev pub AllShort : List ℕ → Type 0
 AllShort is = (i : ℕ) → In i is → i < 65536
 
 -- the front after the next pin
-abbrev pub Advances : Table → ℕ → List ℕ → List ℕ → ℕ → List ℕ → Type 0
-Advances T d is row count seen =
-    (size : ℕ) → length row ≡ size → length seen ≡ size → AllShort is → LeadsInside size T d is → Grown size [] (flat (leads T d) is) row count seen
+abbrev pub Advances : Table → ℕ → List ℕ → ℕ → List ℕ → List ℕ → Type 0
+Advances T d is size is' seen = length seen ≡ size → AllShort is → LeadsInside size T d is → Grown size [] (flat (leads T d) is) is' seen
 
 -- the nodes of a front that ask the pin at place d are put behind those that have numbers, where there is room
-abbrev pub PicksAll : Table → ℕ → List ℕ → List ℕ → ℕ → List ℕ → ℕ → Type 0
-PicksAll T d is order count order' count' =
-    AllShort is → count + length (keep (asks T d) is) ≤ length order → take count' order' ≡ take count order ++ keep (asks T d) is
+abbrev pub PicksAll : Table → ℕ → List ℕ → ℕ → List ℕ → List ℕ → Type 0
+PicksAll T d is room order order' = AllShort is → length order + length (keep (asks T d) is) ≤ room → order' ≡ order ++ keep (asks T d) is
 
 -- the same of one node
-abbrev pub Picks : Table → ℕ → ℕ → List ℕ → ℕ → List ℕ → ℕ → Type 0
-Picks T d i order count order' count' = PicksAll T d (i ∷ []) order count order' count'
+abbrev pub Picks : Table → ℕ → ℕ → ℕ → List ℕ → List ℕ → Type 0
+Picks T d i room order order' = PicksAll T d (i ∷ []) room order order'

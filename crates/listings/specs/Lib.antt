@@ -1,3 +1,4 @@
+pub mod Rows
 pub mod Fronts
 pub mod Numbers
 pub mod Labels

@@ -1,5 +1,5 @@
 -- The nodes that lines reach, by their numbers in a listing, and the number of each node.
-use Rattle.std.specs.Prelude.{◌≡◌, ℕ, ◌+◌, ◌-◌, ◌*◌, ◌<◌, ◌≤◌, List, ◌++◌, map, length, take, Option, nat_eq, slice_index}
+use Rattle.std.specs.Prelude.{◌≡◌, ℕ, ◌+◌, ◌-◌, ◌*◌, ◌<◌, ◌≤◌, List, ◌++◌, map, length, Option, nat_eq, slice_index}
 use Rattle.model.specs.declared.Branch.{Branch}
 use Rattle.model.specs.declared.Branch.TheVariants.{Node as node}
 use Rattle.model.specs.declared.Node.{Node}
@@ -16,10 +16,10 @@ pub record Ready (n : ℕ) (nodes : List Node) (us : List ℕ) (d : ℕ) (is : L
   pub from : (i : ℕ) → In i is → From (λ j. In j us) (listed nodes) d (node i)
 
 -- numbering what is reached from a front, behind those nodes that have numbers, where there is room
-abbrev pub NumbersFrom : ℕ → List Node → ℕ → List ℕ → ℕ → List ℕ → ℕ → List ℕ → ℕ → Type 0
-NumbersFrom n nodes d is rows order count order' count' =
-    (us : List ℕ) → Ready n nodes us d is → rows ≡ length nodes → count + length (numbering (listed nodes) (n - d) d (map node is)) ≤ length order
-    → take count' order' ≡ take count order ++ numbering (listed nodes) (n - d) d (map node is)
+abbrev pub NumbersFrom : ℕ → List Node → ℕ → List ℕ → ℕ → ℕ → List ℕ → List ℕ → Type 0
+NumbersFrom n nodes d is rows room order order' =
+    (us : List ℕ) → Ready n nodes us d is → rows ≡ length nodes → length order + length (numbering (listed nodes) (n - d) d (map node is)) ≤ room
+    → order' ≡ order ++ numbering (listed nodes) (n - d) d (map node is)
 
 -- the number of each node of a list is its index there
 abbrev pub Inverse : List ℕ → List ℕ → Type 0

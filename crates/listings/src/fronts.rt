@@ -1,9 +1,11 @@
-ghost use Rattle.std.specs.Prelude.{◌≡◌, ◌≤◌, true, false, length, take};
+ghost use Rattle.std.specs.Prelude.{◌≡◌, true, false};
 ghost use Rattle.listings.specs.Labels.{short};
+ghost use Rattle.listings.specs.Rows.{filled, room};
 ghost use Rattle.listings.specs.Fronts.{asks, Meets, MeetsBoth, MeetsLines, Advances, Picks, PicksAll};
 ghost use Rattle.model.specs.Diagrams.{listed, next};
 ghost use Rattle.model.specs.declared.Branch.TheVariants.{Node as node};
 
+use crate::row::Row;
 use model::{Branch, Node};
 use tables::line::Line;
 use tables::reading::{node_at, step};
@@ -17,27 +19,18 @@ pub(crate) fn number_in(entry: u32) -> u16
 }
 
 // Puts the node of a branch behind a front, if it is not there yet.
-fn meet(row: &mut [u32], count: usize, seen: &mut [u32], branch: Branch) -> usize
-    requires { count ≤ length row.old }
-    ensures inside { result ≤ length row.old }
-    ensures meets { Meets row.old count seen.old branch row.new result seen.new }
+fn meet(front: &mut Row<u32>, seen: &mut [u32], branch: Branch)
+    ensures room { room front.new ≡ room front.old }
+    ensures meets { Meets (room front.old) (filled front.old) seen.old branch (filled front.new) seen.new }
 {
     let Branch::Node(i) = branch else {
-        return count;
+        return;
     };
-    let at = i as usize;
-    if at >= seen.len() {
-        return count;
+    let at = usize::from(i);
+    if at < seen.len() && seen[at] == 0 {
+        seen[at] = 1;
+        front.push(u32::from(i));
     }
-    if seen[at] != 0 {
-        return count;
-    }
-    if count >= row.len() {
-        return count;
-    }
-    seen[at] = 1;
-    row[count] = i as u32;
-    count + 1
 }
 
 // Where a node leads by the pin at a place: low, and high.
@@ -53,58 +46,45 @@ fn both_ways(nodes: &[Node], place: u8, i: u16) -> (Branch, Branch)
 }
 
 // Puts the nodes to which a node leads by the pin at a place behind a front: low, then high.
-fn meet_both(
-    nodes: &[Node],
-    row: &mut [u32],
-    count: usize,
-    seen: &mut [u32],
-    place: u8,
-    i: u16,
-) -> usize
-    requires { count ≤ length row.old }
-    ensures inside { result ≤ length row.old }
-    ensures meets { MeetsBoth (listed nodes.now) place i row.old count seen.old row.new result seen.new }
+fn meet_both(nodes: &[Node], front: &mut Row<u32>, seen: &mut [u32], place: u8, i: u16)
+    ensures room { room front.new ≡ room front.old }
+    ensures meets { MeetsBoth (listed nodes.now) place i (room front.old) (filled front.old) seen.old (filled front.new) seen.new }
 {
     let (low, high) = both_ways(nodes, place, i);
-    let count = meet(row, count, seen, low);
-    meet(row, count, seen, high)
+    meet(front, seen, low);
+    meet(front, seen, high);
 }
 
 // The front of the lines' roots, in the order of the lines.
-pub(crate) fn meet_lines(row: &mut [u32], seen: &mut [u32], lines: &[Line]) -> usize
-    ensures inside { result ≤ length row.old }
-    ensures meets { MeetsLines lines.now row.new result seen.new }
+pub(crate) fn meet_lines(front: &mut Row<u32>, seen: &mut [u32], lines: &[Line])
+    ensures room { room front.new ≡ room front.old }
+    ensures meets { MeetsLines lines.now (room front.old) (filled front.new) seen.new }
 {
+    front.clear();
     seen.fill(0);
-    let mut count = 0;
     for line in lines {
-        match *line {
-            None => {}
-            Some(root) => count = meet(row, count, seen, root),
+        if let Some(root) = *line {
+            meet(front, seen, root);
         }
     }
-    count
 }
 
 // The next front, to which a front leads by the pin at a place.
 pub(crate) fn advance(
     nodes: &[Node],
     front: &[u32],
-    len: usize,
-    row: &mut [u32],
+    ahead: &mut Row<u32>,
     seen: &mut [u32],
     place: u8,
-) -> usize
-    requires { len ≤ length front.now }
-    ensures inside { result ≤ length row.old }
-    ensures advances { Advances (listed nodes.now) place (take len front.now) row.new result seen.new }
+)
+    ensures room { room ahead.new ≡ room ahead.old }
+    ensures advances { Advances (listed nodes.now) place front.now (room ahead.old) (filled ahead.new) seen.new }
 {
+    ahead.clear();
     seen.fill(0);
-    let mut count = 0;
-    for k in 0..len {
-        count = meet_both(nodes, row, count, seen, place, number_in(front[k]));
+    for entry in front {
+        meet_both(nodes, ahead, seen, place, number_in(*entry));
     }
-    count
 }
 
 // Whether a node asks the pin at a place.
@@ -115,37 +95,21 @@ fn asks_pin(nodes: &[Node], entry: u32, place: u8) -> bool
 }
 
 // Puts a node behind the numbered ones, if it asks the pin at a place.
-fn pick(nodes: &[Node], order: &mut [u32], count: usize, place: u8, entry: u32) -> usize
-    requires { count ≤ length order.old }
-    ensures inside { result ≤ length order.old }
-    ensures picks { Picks (listed nodes.now) place entry order.old count order.new result }
+fn pick(nodes: &[Node], order: &mut Row<u32>, place: u8, entry: u32)
+    ensures room { room order.new ≡ room order.old }
+    ensures picks { Picks (listed nodes.now) place entry (room order.old) (filled order.old) (filled order.new) }
 {
-    if !asks_pin(nodes, entry, place) {
-        return count;
+    if asks_pin(nodes, entry, place) {
+        order.push(entry);
     }
-    if count >= order.len() {
-        return count;
-    }
-    order[count] = entry;
-    count + 1
 }
 
 // Puts the nodes of a front that ask the pin at a place behind the numbered ones.
-pub(crate) fn pick_all(
-    nodes: &[Node],
-    front: &[u32],
-    len: usize,
-    order: &mut [u32],
-    count: usize,
-    place: u8,
-) -> usize
-    requires { (len ≤ length front.now) × (count ≤ length order.old) }
-    ensures inside { result ≤ length order.old }
-    ensures picks { PicksAll (listed nodes.now) place (take len front.now) order.old count order.new result }
+pub(crate) fn pick_all(nodes: &[Node], front: &[u32], order: &mut Row<u32>, place: u8)
+    ensures room { room order.new ≡ room order.old }
+    ensures picks { PicksAll (listed nodes.now) place front.now (room order.old) (filled order.old) (filled order.new) }
 {
-    let mut count = count;
-    for k in 0..len {
-        count = pick(nodes, order, count, place, front[k]);
+    for entry in front {
+        pick(nodes, order, place, *entry);
     }
-    count
 }

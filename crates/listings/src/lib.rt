@@ -4,4 +4,5 @@ mod fronts;
 mod labels;
 pub mod listing;
 mod numbers;
+mod row;
 mod writing;

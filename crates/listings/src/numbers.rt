@@ -1,7 +1,9 @@
-ghost use Rattle.std.specs.Prelude.{◌≡◌, ◌<◌, ◌≤◌, length, take};
+ghost use Rattle.std.specs.Prelude.{◌≡◌, ◌≤◌, length};
+ghost use Rattle.listings.specs.Rows.{filled, room};
 ghost use Rattle.listings.specs.Numbers.{NumbersFrom, Inverts, Numbers};
 
 use crate::fronts::{advance, meet_lines, pick_all};
+use crate::row::Row;
 use model::Node;
 use tables::indexing::MOST_NODES;
 use tables::line::Line;
@@ -9,25 +11,23 @@ use tables::line::Line;
 // Numbers what is reached from a front, place by place. The two rows change parts from place to place.
 fn number_from(
     nodes: &[Node],
-    front: &mut [u32],
-    len: usize,
-    row: &mut [u32],
+    front: &mut Row<u32>,
+    ahead: &mut Row<u32>,
     seen: &mut [u32],
-    order: &mut [u32],
-    count: usize,
+    order: &mut Row<u32>,
     pins: u8,
     place: u8,
-) -> usize
-    requires { (len ≤ length front.old) × (count ≤ length order.old) }
-    ensures inside { result ≤ length order.old }
-    ensures numbers { length front.old ≡ length row.old → length seen.old ≡ length row.old → NumbersFrom pins nodes.now place (take len front.old) (length row.old) order.old count order.new result }
+)
+    ensures room { room order.new ≡ room order.old }
+    ensures numbers { room ahead.old ≡ room front.old → length seen.old ≡ room front.old → NumbersFrom pins nodes.now place (filled front.old) (room front.old) (room order.old) (filled order.old) (filled order.new) }
 {
     if place >= pins {
-        return count;
+        return;
     }
-    let count = pick_all(nodes, front, len, order, count, place);
-    let met = advance(nodes, front, len, row, seen, place);
-    number_from(nodes, row, met, front, seen, order, count, pins, place + 1)
+    let here = front.filled();
+    pick_all(nodes, here, order, place);
+    advance(nodes, here, ahead, seen, place);
+    number_from(nodes, ahead, front, seen, order, pins, place + 1);
 }
 
 // Writes the index of each node of a list at the node's own entry.
@@ -64,10 +64,13 @@ pub(crate) fn number_nodes<'a>(
     let (order, rest) = work.split_at_mut(len);
     let (numbers, rest) = rest.split_at_mut(len);
     let (front, rest) = rest.split_at_mut(len);
-    let (row, _) = rest.split_at_mut(len);
-    let met = meet_lines(front, numbers, lines);
-    let count = number_from(nodes, front, met, row, numbers, order, 0, pins, 0);
-    let (order, _) = order.split_at_mut(count);
+    let (ahead, _) = rest.split_at_mut(len);
+    let mut order = Row::over(order);
+    let mut front = Row::over(front);
+    let mut ahead = Row::over(ahead);
+    meet_lines(&mut front, numbers, lines);
+    number_from(nodes, &mut front, &mut ahead, numbers, &mut order, pins, 0);
+    let order = order.into_filled();
     invert(order, numbers);
     (order, numbers)
 }

@@ -1,25 +1,14 @@
-use Rattle.std.proofs.Common.{length, arith}
+use Rattle.std.proofs.Common.{◌∙◌}
 use Rattle.model.specs.Diagrams.{listed}
-use Rattle.listings.proofs.Leading.{grown_none, one_further, front_done}
+use Rattle.listings.specs.Rows.{filled, room}
+use Rattle.listings.proofs.Leading.{one_further}
 use Rattle.listings.proofs.Shortening.{short_is}
 use Rattle.listings.proofs.fronts.advance.Goals as goal
 
-pub loop-k-init : goal.loop-k-init
-loop-k-init c = (omega arith, λ size room wide short leading. grown_none size (length c.args.seen.now) c.args.row.now c.fill.new.self (c.fill.ensures.after (λ y h. h)) room wide)
-
-pub loop-k-preserved : goal.loop-k-preserved
-loop-k-preserved c =
-    let a = c.meet_both-count.ensures.inside in
-    let same_row = c.meet_both-count.auto.row in
-    let same_seen = c.meet_both-count.auto.seen in (
-      omega (arith, a, same_row),
-      one_further (listed c.args.nodes.now) c.args.place c.args.front.now c.args.len c.loop-k.k c.number_in.result c.loop-k.row c.loop-k.count c.loop-k.seen
-          c.meet_both-count.new.row c.meet_both-count.result c.meet_both-count.new.seen c.loop-k-test.true c.requires (short_is _ c.number_in.result c.number_in.ensures) same_row same_seen
-          c.meet_both-count.ensures.meets c.loop-k.invariant.1,
-    )
-
-pub returns : goal.returns
-returns c = record {
-  inside = (let a = c.loop-k.invariant.0 in let k = c.loop-k.auto.row in omega arith);
-  advances = front_done (listed c.args.nodes.now) c.args.place c.args.front.now c.args.len c.loop-k.k (omega arith) c.loop-k.row c.loop-k.count c.loop-k.seen c.loop-k.invariant.1;
-}
+pub loop-entry-preserved : goal.loop-entry-preserved
+loop-entry-preserved c = (
+  c.meet_both.ensures.room ∙ c.loop-entry.invariant.0,
+  one_further (listed c.args.nodes.now) c.args.place c.args.front.now c.loop-entry.entry-index c.number_in.result (room c.args.ahead.now) (room c.loop-entry.ahead)
+      (filled c.loop-entry.ahead) c.loop-entry.seen (filled c.meet_both.new.front) c.meet_both.new.seen c.loop-entry-test.true (short_is _ c.number_in.result c.number_in.ensures)
+      c.loop-entry.invariant.0 c.meet_both.auto.seen c.meet_both.ensures.meets c.loop-entry.invariant.1,
+)

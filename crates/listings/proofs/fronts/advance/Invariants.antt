@@ -1,7 +1,8 @@
-use Rattle.std.proofs.Common.{◌≤◌, length}
+use Rattle.std.proofs.Common.{◌≡◌}
 use Rattle.model.specs.Diagrams.{listed}
+use Rattle.listings.specs.Rows.{filled, room}
 use Rattle.listings.proofs.Leading.{SoFar}
 use Rattle.listings.proofs.fronts.advance.Given as goal
 
-abbrev pub invariant-loop-k : goal.invariant-loop-k
-invariant-loop-k l = (l.count ≤ length l.row) × SoFar (listed l.nodes) l.place l.front l.len l.k l.row l.count l.seen
+abbrev pub invariant-loop-entry : goal.invariant-loop-entry
+invariant-loop-entry l = (room l.ahead ≡ room l.fn.ahead) × SoFar (listed l.nodes) l.place l.front l.entry-index (room l.fn.ahead) (filled l.ahead) l.seen

@@ -1,22 +1,25 @@
-use Rattle.std.proofs.Common.{arith}
-use Rattle.listings.proofs.Meeting.{meets_end, meets_outside, meets_known, meets_full, meets_new}
+use Rattle.std.proofs.Common.{ℕ, [], ◌∷◌, ◌++◌, sym, ap, ◌∙◌}
+use Rattle.model.specs.declared.Branch.TheVariants.{Node as node}
+use Rattle.listings.specs.Rows.{filled, room}
+use Rattle.listings.proofs.Meeting.{meets_end, meets_outside, meets_known, meets_new}
 use Rattle.listings.proofs.fronts.meet.Goals as goal
+use Rattle.listings.proofs.fronts.meet.Goals.{else-at-seen-via-then-at-seen+else-seen-at-eq0, else-at-seen-via-else-at-seen}
 
-pub returns-in_default : goal.returns-in_default
-returns-in_default c = record { inside = c.requires; meets = meets_end c.args.row.now c.args.count c.args.seen.now c.args.branch c.in_default.field-0 c.in_default.is }
+pub returns-in_default-clause-meets : goal.returns-in_default-clause-meets
+returns-in_default-clause-meets c = meets_end (room c.args.front.now) (filled c.args.front.now) c.args.seen.now c.args.branch c.in_default.field-0 c.in_default.is
 
-pub returns-then-at-seen : goal.returns-then-at-seen
-returns-then-at-seen c =
-    record { inside = c.requires; meets = meets_outside c.args.row.now c.args.count c.args.seen.now c.args.branch c.in-Node.i c.in-Node.is c.if-at-seen.true }
+pub returns-then-seen-at-eq0-clause-meets : goal.returns-then-seen-at-eq0-clause-meets
+returns-then-seen-at-eq0-clause-meets c =
+    let is = filled c.args.front.now in
+    meets_new (room c.args.front.now) is c.args.seen.now c.args.branch c.from-at.result (c.in-Node.is ∙ ap node (sym c.from-at.ensures)) c.if-seen-at-eq0.true (filled c.push.new.self)
+    (λ l. c.push.ensures.filled l ∙ ap (λ (x : ℕ). is ++ (x ∷ [])) (c.from.ensures ∙ sym c.from-at.ensures))
 
-pub returns-then-seen-at-ne0 : goal.returns-then-seen-at-ne0
-returns-then-seen-at-ne0 c =
-    record { inside = c.requires; meets = meets_known c.args.row.now c.args.count c.args.seen.now c.args.branch c.in-Node.i c.in-Node.is c.if-seen-at-ne0.true }
-
-pub returns-then-count-row : goal.returns-then-count-row
-returns-then-count-row c =
-    record { inside = c.requires; meets = meets_full c.args.row.now c.args.count c.args.seen.now c.args.branch c.in-Node.i c.in-Node.is c.if-seen-at-ne0.false c.if-count-row.true }
-
-pub returns : goal.returns
-returns c =
-    record { inside = omega arith; meets = meets_new c.args.row.now c.args.count c.args.seen.now c.args.branch c.in-Node.i c.in-Node.is c.if-seen-at-ne0.false c.if-count-row.false }
+pub returns-else-at-seen-clause-meets : goal.returns-else-at-seen-clause-meets
+returns-else-at-seen-clause-meets c =
+    let size = room c.args.front.now in
+    let is = filled c.args.front.now in
+    let e = c.in-Node.is ∙ ap node (sym c.from-at.ensures) in
+    elim c.else-at-seen.branch [
+      | else-at-seen-via-then-at-seen+else-seen-at-eq0 w ↦ meets_known size is c.args.seen.now c.args.branch c.from-at.result e w.if-seen-at-eq0.false
+      | else-at-seen-via-else-at-seen w ↦ meets_outside size is c.args.seen.now c.args.branch c.from-at.result e w.if-at-seen.false
+    ]

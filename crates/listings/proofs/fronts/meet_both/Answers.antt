@@ -1,12 +1,10 @@
-use Rattle.std.proofs.Common.{arith}
 use Rattle.model.specs.Diagrams.{listed}
+use Rattle.listings.specs.Rows.{filled, room}
 use Rattle.listings.proofs.Leading.{both_met}
 use Rattle.listings.proofs.fronts.meet_both.Goals as goal
 
-pub returns : goal.returns
-returns c = record {
-  inside = (let a = c.meet.ensures.inside in let k = c.meet-count.auto.row in omega arith);
-  meets = both_met (listed c.args.nodes.now) c.args.place c.args.i c.both_ways-low.result.0 c.both_ways-low.result.1 c.both_ways-low.ensures.low c.both_ways-low.ensures.high
-      c.args.row.now c.args.count c.args.seen.now c.meet-count.new.row c.meet-count.result c.meet-count.new.seen
-      c.meet.new.row c.meet.result c.meet.new.seen c.meet-count.ensures.meets c.meet.ensures.meets;
-}
+pub returns-clause-meets : goal.returns-clause-meets
+returns-clause-meets c =
+    both_met (listed c.args.nodes.now) c.args.place c.args.i c.both_ways-low.result.0 c.both_ways-low.result.1 c.both_ways-low.ensures.low c.both_ways-low.ensures.high
+    (room c.args.front.now) (room c.meet.new.front) c.meet.ensures.room (filled c.args.front.now) c.args.seen.now (filled c.meet.new.front) c.meet.new.seen
+    (filled c.meet-2.new.front) c.meet-2.new.seen c.meet.ensures.meets c.meet-2.ensures.meets

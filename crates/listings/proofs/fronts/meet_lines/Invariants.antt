@@ -1,6 +1,7 @@
-use Rattle.std.proofs.Common.{◌≤◌, length}
+use Rattle.std.proofs.Common.{◌≡◌}
+use Rattle.listings.specs.Rows.{filled, room}
 use Rattle.listings.proofs.Leading.{LinesSoFar}
 use Rattle.listings.proofs.fronts.meet_lines.Given as goal
 
 abbrev pub invariant-loop-line : goal.invariant-loop-line
-invariant-loop-line l = (l.count ≤ length l.row) × LinesSoFar l.lines l.line-index l.row l.count l.seen
+invariant-loop-line l = (room l.front ≡ room l.fn.front) × LinesSoFar l.lines l.line-index (room l.fn.front) (filled l.front) l.seen

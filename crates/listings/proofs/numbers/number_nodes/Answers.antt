@@ -1,38 +1,23 @@
-use Rattle.std.proofs.Common.{◌≡◌, ℕ, length, take, sym, ◌∙◌, subst, arith}
-use Rattle.listings.specs.Numbers.{NumbersFrom}
+use Rattle.std.proofs.Common.{◌≡◌, length, sym, ◌∙◌}
+use Rattle.listings.specs.Rows.{filled, room}
 use Rattle.listings.proofs.Numbering.{numbers_lines, numbered_nodes}
 use Rattle.listings.proofs.numbers.number_nodes.Goals as goal
 
-pub returns-then-len-gt-MOST_NODES : goal.returns-then-len-gt-MOST_NODES
-returns-then-len-gt-MOST_NODES c = record { few = (let l = c.split_at_mut.ensures.front_len in omega arith); numbers = λ us dg f few room. let g = c.if-len-gt-MOST_NODES.true in absurd (omega arith) }
-
-pub returns-then-room-len : goal.returns-then-room-len
-returns-then-room-len c = record { few = (let l = c.split_at_mut-then-room-len.ensures.front_len in omega arith); numbers = λ us dg f few room. let g = c.if-room-len.true in absurd (omega arith) }
-
-pub returns : goal.returns
-returns c =
+pub returns-clause-numbers : goal.returns-clause-numbers
+returns-clause-numbers c = λ us dg f few enough.
     let nodes = c.args.nodes.now in
-    let n = c.args.pins in
     let lines = c.args.lines.now in
-    let few₀ = c.if-len-gt-MOST_NODES.false in
-    let l₀ : length c.split_at_mut-order.result.0.now ≡ length nodes = c.split_at_mut-order.ensures.front_len in
-    let l₁ : length c.split_at_mut-numbers.result.0.now ≡ length nodes = c.split_at_mut-numbers.ensures.front_len in
-    let l₂ : length c.split_at_mut-front.result.0.now ≡ length nodes = c.split_at_mut-front.ensures.front_len in
-    let l₃ : length c.split_at_mut-row.result.0.now ≡ length nodes = c.split_at_mut-row.ensures.front_len in
-    let k₁ = c.meet_lines-met.auto.seen in
-    let k₂ = c.meet_lines-met.auto.row in
-    let s₁ = c.number_from-count.auto.seen in
-    let count = c.number_from-count.result in
-    let cut_long : length c.split_at_mut-order-2.result.0.now ≡ count = c.split_at_mut-order-2.ensures.front_len in
-    let inside = c.number_from-count.ensures.inside in
-    record {
-      few = omega (arith, cut_long, inside, l₀, few₀);
-      numbers = λ us dg f few room.
-          numbered_nodes n nodes us dg few lines f c.number_from-count.new.order count
-          (numbers_lines n nodes us dg few lines f c.meet_lines-met.new.row c.meet_lines-met.result c.meet_lines-met.new.seen c.split_at_mut-order.result.0.now c.number_from-count.new.order count
-          (k₂ ∙ l₂) (k₁ ∙ l₁) l₀ c.meet_lines-met.ensures.meets
-          (subst (λ (x : ℕ). NumbersFrom n nodes 0 (take c.meet_lines-met.result c.meet_lines-met.new.row) x c.split_at_mut-order.result.0.now 0 c.number_from-count.new.order count) l₃
-          (c.number_from-count.ensures.numbers (k₂ ∙ (l₂ ∙ sym l₃)) (k₁ ∙ (l₁ ∙ sym l₃)))))
-          c.split_at_mut-order-2.result.0.now c.split_at_mut-order-2.result.1.now c.split_at_mut-order-2.ensures.value cut_long
-          c.number_from-count.new.seen c.invert.new.numbers (s₁ ∙ (k₁ ∙ l₁)) c.invert.ensures;
-    }
+    let order = c.into_filled-order.result.now in
+    let is = filled c.meet_lines.new.front in
+    let seen = c.meet_lines.new.seen in
+    let rows : room c.over-front.result ≡ length nodes = c.over-front.ensures.room ∙ c.split_at_mut-front.ensures.front_len in
+    let rows₁ : room c.meet_lines.new.front ≡ length nodes = c.meet_lines.ensures.room ∙ rows in
+    let rows₂ : room c.over-ahead.result ≡ length nodes = c.over-ahead.ensures.room ∙ c.split_at_mut-ahead.ensures.front_len in
+    let places : room c.over-order.result ≡ length nodes = c.over-order.ensures.room ∙ c.split_at_mut-order.ensures.front_len in
+    let wide : length seen ≡ length nodes = c.meet_lines.auto.seen ∙ c.split_at_mut-numbers.ensures.front_len in
+    let numbers = c.number_from.ensures.numbers (rows₂ ∙ sym rows₁) (wide ∙ sym rows₁) in
+    numbered_nodes c.args.pins nodes us dg few lines f order
+    (c.into_filled-order.ensures
+    ∙ numbers_lines c.args.pins nodes us dg few lines f (room c.over-front.result) (room c.meet_lines.new.front) (room c.over-order.result) is seen (filled c.over-order.result) (filled c.number_from.new.order)
+    rows rows₁ places wide c.over-order.ensures.empty c.meet_lines.ensures.meets numbers)
+    c.number_from.new.seen c.invert.new.numbers (c.number_from.auto.seen ∙ wide) c.invert.ensures
