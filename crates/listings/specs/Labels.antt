@@ -1,5 +1,5 @@
--- Nodes and lines under the numbers of a table, and writing bytes one behind the other.
-use Rattle.std.specs.Prelude.{◌≡◌, ℕ, ◌+◌, ◌%◌, List, ◌++◌, map, length, take, Option, slice_index}
+-- Nodes and lines under the numbers of a table.
+use Rattle.std.specs.Prelude.{ℕ, ◌%◌, List, map, Option, slice_index}
 use Rattle.model.specs.declared.Branch.{Branch}
 use Rattle.model.specs.declared.Branch.TheVariants.{End as end, Node as node}
 use Rattle.model.specs.declared.Node.{Node}
@@ -23,8 +23,3 @@ relabelled numbers k = record { place = k.place; low = relabel numbers k.low; hi
 -- the nodes of a list and some lines under new numbers
 abbrev pub labelled : Table → List ℕ → List ℕ → List (Option Branch) → Layout
 labelled T order numbers lines = record { nodes = map (λ i. relabelled numbers (T (short i))) order; lines = map (each (relabel numbers)) lines }
-
--- bytes were written at a place, up to the next place
-pub record Writes (room : List ℕ) (at : ℕ) (bs : List ℕ) (room' : List ℕ) (next : ℕ) : Type 0 where
-  pub next_is : next ≡ at + length bs
-  pub front : take next room' ≡ take at room ++ bs

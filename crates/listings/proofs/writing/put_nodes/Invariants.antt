@@ -1,6 +1,14 @@
+use Rattle.std.proofs.Common.{◌≡◌}
 use Rattle.model.specs.Diagrams.{listed}
-use Rattle.listings.proofs.Written.{NodesSoFar}
+use Rattle.model.specs.Listings.{node_bytes}
+use Rattle.listings.specs.Labels.{short, relabelled}
+use Rattle.listings.specs.Rows.{filled, room}
+use Rattle.listings.proofs.Written.{WrittenSoFar}
 use Rattle.listings.proofs.writing.put_nodes.Given as goal
 
-abbrev pub invariant-loop-number : goal.invariant-loop-number
-invariant-loop-number l = NodesSoFar (listed l.nodes) l.order l.numbers l.number-index l.initial.room l.initial.at l.room l.at
+abbrev pub invariant-loop-entry : goal.invariant-loop-entry
+invariant-loop-entry l = record {
+  same_slice : l.out.entries.ghost_name ≡ l.fn.out.entries.ghost_name;
+  room : room l.out ≡ room l.fn.out;
+  written : WrittenSoFar node_bytes (λ i. relabelled l.numbers (listed l.nodes (short i))) l.order l.entry-index (filled l.fn.out) (filled l.out);
+}

@@ -1,36 +1,24 @@
-use Rattle.std.proofs.Common.{length, ap, arith}
+use Rattle.std.proofs.Common.{◌∙◌, rules}
 use Rattle.model.specs.Diagrams.{listed}
-use Rattle.listings.proofs.Written.{nodes_length, listing_written}
+use Rattle.listings.specs.Rows.{filled, room}
+use Rattle.listings.proofs.Written.{lines_fit, room_written}
 use Rattle.listings.proofs.writing.write_listing.Goals as goal
 
 pub put_lines-requires : goal.put_lines-requires
 put_lines-requires c =
-    let e = nodes_length (listed c.args.nodes.now) c.args.order.now c.args.numbers.now in
-    let n₁ = c.put-at.ensures.next_is in
-    let n₂ = c.put-at-2.ensures.next_is in
-    let n₃ = c.put-at-3.ensures.next_is in
-    let n₄ = c.put-at-4.ensures.next_is in
-    let n₅ = c.put_nodes-at.ensures.next_is in
-    let k₁ = c.put-at.auto.room in
-    let k₂ = c.put-at-2.auto.room in
-    let k₃ = c.put-at-3.auto.room in
-    let k₄ = c.put-at-4.auto.room in
-    let k₅ = c.put_nodes-at.auto.room in
-    let b = ap length c.used_bytes.ensures in
-    let fits = c.requires.fits in
-    omega (arith, e, n₁, n₂, n₃, n₄, n₅, k₁, k₂, k₃, k₄, k₅, b, fits)
+    let same₁ = c.extend_from_slice.ensures.room ∙ c.over-out.ensures.room in
+    let same₅ = c.put_nodes.ensures.room ∙ (c.extend_from_slice-3.ensures.room ∙ (c.extend_from_slice-2.ensures.room ∙ (c.push.ensures.room ∙ same₁))) in
+    lines_fit c.args.pins.now (listed c.args.nodes.now) c.args.order.now c.args.numbers.now c.args.lines.now c.used_bytes.result
+    (filled c.over-out.result) (filled c.extend_from_slice.new.self) (filled c.push.new.self) (filled c.extend_from_slice-2.new.self) (filled c.extend_from_slice-3.new.self) (filled c.put_nodes.new.out)
+    c.over-out.ensures.empty c.extend_from_slice.ensures.filled _ c.requires.fits (room c.extend_from_slice.new.self) same₁ c.push.ensures.filled c.extend_from_slice-2.ensures.filled c.used_bytes.ensures
+    c.extend_from_slice-3.ensures.filled c.put_nodes.ensures.written (room c.put_nodes.new.out) same₅
 
 pub returns : goal.returns
 returns c =
-    let k₁ = c.put-at.auto.room in
-    let k₂ = c.put-at-2.auto.room in
-    let k₃ = c.put-at-3.auto.room in
-    let k₄ = c.put-at-4.auto.room in
-    let k₅ = c.put_nodes-at.auto.room in
-    let k₆ = c.put_lines.auto.room in
-    let fits = c.requires.fits in
-    listing_written c.args.pins.now (listed c.args.nodes.now) c.args.order.now c.args.numbers.now c.args.lines.now
-    c.args.room.now c.put-at.new.room c.put-at-2.new.room c.put-at-3.new.room c.put-at-4.new.room c.put_nodes-at.new.room c.put_lines.new.room
-    c.put-at.result c.put-at-2.result c.put-at-3.result c.put-at-4.result c.put_nodes-at.result c.put_lines.result
-    c.put-at.ensures c.put-at-2.ensures c.put-at-3.ensures c.used_bytes.result c.used_bytes.ensures c.put-at-4.ensures c.put_nodes-at.ensures c.put_lines.ensures
-    (omega (arith, k₁, k₂, k₃, k₄, k₅, k₆, fits))
+    let same₁ = c.extend_from_slice.ensures.room ∙ c.over-out.ensures.room in
+    let same₅ = c.put_nodes.ensures.room ∙ (c.extend_from_slice-3.ensures.room ∙ (c.extend_from_slice-2.ensures.room ∙ (c.push.ensures.room ∙ same₁))) in
+    let w = room_written c.args.pins.now (listed c.args.nodes.now) c.args.order.now c.args.numbers.now c.args.lines.now c.used_bytes.result
+    (filled c.over-out.result) (filled c.extend_from_slice.new.self) (filled c.push.new.self) (filled c.extend_from_slice-2.new.self) (filled c.extend_from_slice-3.new.self) (filled c.put_nodes.new.out)
+    c.over-out.ensures.empty c.extend_from_slice.ensures.filled _ c.requires.fits (room c.extend_from_slice.new.self) same₁ c.push.ensures.filled c.extend_from_slice-2.ensures.filled c.used_bytes.ensures
+    c.extend_from_slice-3.ensures.filled c.put_nodes.ensures.written c.put_lines.new.out.entries.now c.put_lines.new.out.len c.put_lines.new.out.inside (c.put_lines.ensures.room ∙ same₅) c.put_lines.ensures.written in
+    search (rules, w)
