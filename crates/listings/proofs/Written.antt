@@ -1,5 +1,5 @@
 -- Bytes written one behind the other.
-use Rattle.std.proofs.Common.{◌≡◌, ℕ, ◌+◌, ◌*◌, ◌<◌, ◌≤◌, List, [], ◌∷◌, ◌++◌, map, length, take, Some, None, Option, sym, refl, ap, ◌∙◌, mul-suc, arith, length-append, take_all}
+use Rattle.std.proofs.Common.{◌≡◌, ℕ, ◌+◌, ◌*◌, ◌≤◌, List, [], ◌∷◌, ◌++◌, map, length, take, Some, None, Option, sym, refl, ap, ◌∙◌, mul-suc, arith, length-append, take_all}
 use Rattle.std.proofs.lemmas.List.{append-nil, append_assoc, length-map, length-take-le}
 use Rattle.model.specs.declared.Branch.{Branch}
 use Rattle.model.specs.declared.Branch.TheVariants.{End as end, Node as node}
@@ -7,7 +7,7 @@ use Rattle.model.specs.declared.Node.{Node}
 use Rattle.model.specs.Lists.{flat, each}
 use Rattle.model.specs.Diagrams.{Table}
 use Rattle.model.specs.Listings.{two_bytes, reference, line_reference, node_bytes, bytes}
-use Rattle.listings.specs.Labels.{short, relabel, relabelled, labelled}
+use Rattle.listings.specs.Labels.{short, relabel, relabelled, labelled, head}
 
 flat_push : {X : Type 0} (g : X → List ℕ) (xs : List X) (x : X) → flat g (xs ++ (x ∷ [])) ≡ flat g xs ++ g x
 flat_push g [] x = append-nil (g x)
@@ -69,41 +69,36 @@ module _ (pins : List ℕ) (T : Table) (order numbers : List ℕ) (lines : List 
   abbrev ls : List ℕ
   ls = flat line_reference (map (each (relabel numbers)) lines)
 
-  module _ (count out₀ out₁ out₂ out₃ out₄ out₅ : List ℕ) (e₀ : out₀ ≡ []) (e₁ : out₁ ≡ out₀ ++ (0x4C ∷ (0x53 ∷ (0x54 ∷ (0 ∷ (1 ∷ []))))))
-      (room : ℕ) (long : room ≡ 8 + length pins + 7 * length order + 3 * length lines) (room₁ : ℕ) (same₁ : room₁ ≡ room) (e₂ : length out₁ < room₁ → out₂ ≡ out₁ ++ (length pins ∷ [])) (e₃ : out₃ ≡ out₂ ++ pins) (e : count ≡ two_bytes (length order)) (e₄ : out₄ ≡ out₃ ++ count) (e₅ : out₅ ≡ out₄ ++ ns) where
-    head : out₃ ≡ 0x4C ∷ (0x53 ∷ (0x54 ∷ (0 ∷ (1 ∷ (length pins ∷ pins)))))
-    head =
-        let a = ap length (e₁ ∙ ap (λ z. z ++ (0x4C ∷ (0x53 ∷ (0x54 ∷ (0 ∷ (1 ∷ [])))))) e₀) in
-        e₃ ∙ ap (λ z. z ++ pins) (e₂ (omega arith) ∙ ap (λ z. z ++ (length pins ∷ [])) (e₁ ∙ ap (λ z. z ++ (0x4C ∷ (0x53 ∷ (0x54 ∷ (0 ∷ (1 ∷ [])))))) e₀))
+  module _ (out₀ out₁ out₂ : List ℕ) (e₀ : out₀ ≡ []) (e₁ : out₁ ≡ out₀ ++ head pins (length order)) (e₂ : out₂ ≡ out₁ ++ ns)
+      (room : ℕ) (long : room ≡ 8 + length pins + 7 * length order + 3 * length lines) where
+    front : out₂ ≡ head pins (length order) ++ ns
+    front = e₂ ∙ ap (λ z. z ++ ns) (e₁ ∙ ap (λ z. z ++ head pins (length order)) e₀)
 
-    front : out₅ ≡ (out₃ ++ count) ++ ns
-    front = e₅ ∙ ap (λ z. z ++ ns) e₄
-
-    front_length : length out₅ ≡ 8 + length pins + 7 * length order
+    front_length : length out₂ ≡ 8 + length pins + 7 * length order
     front_length =
         let a = ap length front in
-        let b = ap length head in
-        let c = length-append (out₃ ++ count) ns in
-        let d = length-append out₃ count in
-        let f = ap length e in
+        let b = length-append (head pins (length order)) ns in
+        let c = length-append pins (two_bytes (length order)) in
         let g = nodes_length T order numbers in
         omega arith
 
-    pub lines_fit : (room₅ : ℕ) → room₅ ≡ room → length out₅ + 3 * length lines ≤ room₅
-    lines_fit room₅ same₅ = let l = front_length in omega arith
+    pub lines_fit : (room₂ : ℕ) → room₂ ≡ room → length out₂ + 3 * length lines ≤ room₂
+    lines_fit room₂ same = let l = front_length in omega arith
 
-    listing_written : (out₆ : List ℕ) → out₆ ≡ out₅ ++ ls → out₆ ≡ bytes pins (labelled T order numbers lines)
+    all : out₂ ++ ls ≡ bytes pins (labelled T order numbers lines)
     unfolding bytes
-    listing_written out₆ e₆ =
+    all =
         let m = length-map order (λ i. relabelled numbers (T (short i))) in
-        e₆ ∙ (ap (λ z. z ++ ls) front ∙ (append_assoc (out₃ ++ count) ns ls ∙ (append_assoc out₃ count (ns ++ ls)
-        ∙ (ap (λ z. out₃ ++ (z ++ (ns ++ ls))) (e ∙ ap two_bytes (sym m)) ∙ (ap (λ z. z ++ (two_bytes (length (labelled T order numbers lines).nodes) ++ (ns ++ ls))) head)))))
+        ap (λ z. z ++ ls) front
+        ∙ (append_assoc (head pins (length order)) ns ls
+        ∙ ap (λ z. 0x4C ∷ (0x53 ∷ (0x54 ∷ (0 ∷ (1 ∷ (length pins ∷ z))))))
+        (append_assoc pins (two_bytes (length order)) (ns ++ ls) ∙ ap (λ x. pins ++ (two_bytes x ++ (ns ++ ls))) (sym m)))
 
-    pub room_written : (entries : List ℕ) (k : ℕ) → k ≤ length entries → length entries ≡ room → take k entries ≡ out₅ ++ ls → entries ≡ bytes pins (labelled T order numbers lines)
-    room_written entries k inside same₆ e₆ =
-        let a = ap length e₆ in
-        let b = length-append out₅ ls in
+    pub room_written : (entries : List ℕ) (k : ℕ) → k ≤ length entries → length entries ≡ room → take k entries ≡ out₂ ++ ls → entries ≡ bytes pins (labelled T order numbers lines)
+    room_written entries k inside same e =
+        let a = ap length e in
+        let b = length-append out₂ ls in
         let c = lines_length numbers lines in
         let d = front_length in
         let t = length-take-le k entries inside in
-        sym (take_all k entries (omega arith)) ∙ listing_written (take k entries) e₆
+        sym (take_all k entries (omega arith)) ∙ (e ∙ all)

@@ -2,7 +2,7 @@ ghost use Rattle.std.specs.Prelude.{◌≡◌, ◌+◌, ◌*◌, ◌≤◌, ◌+
 ghost use Rattle.model.specs.Diagrams.{listed};
 ghost use Rattle.model.specs.Listings.{bytes, node_bytes, line_reference};
 ghost use Rattle.model.specs.Lists.{each, flat};
-ghost use Rattle.listings.specs.Labels.{relabel, labelled};
+ghost use Rattle.listings.specs.Labels.{relabel, labelled, head};
 ghost use Rattle.listings.specs.Rows.{filled, room};
 
 use crate::fronts::number_in;
@@ -11,6 +11,21 @@ use crate::row::Row;
 use model::Node;
 use tables::line::Line;
 use tables::reading::node_at;
+
+// Writes what stands before the nodes: the mark LST, version 1, the pins, the order and the used number.
+fn put_head(out: &mut Row<u8>, pins: &[u8], order: &[u32])
+    requires few { length pins.now ≤ 20 }
+    requires short { length order.now ≤ 4096 }
+    requires fits { length (filled out.old) + 8 + length pins.now ≤ room out.old }
+    ensures same_slice { out.new.entries.ghost_name ≡ out.old.entries.ghost_name }
+    ensures room { room out.new ≡ room out.old }
+    ensures written { filled out.new ≡ filled out.old ++ head pins.now (length order.now) }
+{
+    out.extend_from_slice(b"LST\x00\x01");
+    out.push(pins.len() as u8);
+    out.extend_from_slice(pins);
+    out.extend_from_slice(&used_bytes(order));
+}
 
 // Writes the nodes of a list, under their numbers.
 // Apart from `put_lines`: one function for both takes a closure that answers `[u8; N]`, and a bound `Fn` that names a const parameter gets no proof.
@@ -53,10 +68,7 @@ pub(crate) fn write_listing(
     ensures { room.new ≡ bytes pins.now (labelled (listed nodes.now) order.now numbers.now lines.now) }
 {
     let mut out = Row::over(room);
-    out.extend_from_slice(b"LST\x00\x01");
-    out.push(pins.len() as u8);
-    out.extend_from_slice(pins);
-    out.extend_from_slice(&used_bytes(order));
+    put_head(&mut out, pins, order);
     put_nodes(&mut out, nodes, order, numbers);
     put_lines(&mut out, numbers, lines);
 }
