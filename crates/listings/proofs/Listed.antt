@@ -55,12 +55,12 @@ module _ (nodes : List Node) (work pins order numbers : List ℕ) (lines : List 
       kept = λ g z. refl;
     }
 
-    pub buffer_written : (filled tail : List ℕ) → needed ≤ length buffer → filled ≡ bytes pins (labelled (listed nodes) order numbers lines) → tail ≡ drop needed buffer
-        → ListsLines nodes (length work) pins lines buffer (Ok needed) (filled ++ tail)
-    buffer_written filled tail enough e q = record {
+    pub buffer_written : (filled : List ℕ) → needed ≤ length buffer → filled ≡ bytes pins (labelled (listed nodes) order numbers lines)
+        → ListsLines nodes (length work) pins lines buffer (Ok needed) (filled ++ drop needed buffer)
+    buffer_written filled enough e = record {
       turned = λ h. absurd (omega arith);
-      lists = λ us dg from few room le. let l = long us dg from few room in (omega arith, is ∙ sym l, ap (λ xs. xs ++ tail) (e ∙ written us dg from few room) ∙ ap (λ xs. bytes pins (listing (listed nodes) (length pins) lines) ++ xs) q);
+      lists = λ us dg from few room le. let l = long us dg from few room in (omega arith, is ∙ sym l, ap (λ xs. xs ++ drop needed buffer) (e ∙ written us dg from few room));
       past = λ k z. let y : k ≡ needed = cc in
-          ap (λ x. drop x (filled ++ tail)) y ∙ (drop_at filled tail needed (ap length e ∙ (labelled_length pins (listed nodes) order numbers lines all ∙ sym is)) ∙ (q ∙ ap (λ x. drop x buffer) (sym y)));
+          ap (λ x. drop x (filled ++ drop needed buffer)) y ∙ (drop_at filled (drop needed buffer) needed (ap length e ∙ (labelled_length pins (listed nodes) order numbers lines all ∙ sym is)) ∙ ap (λ x. drop x buffer) (sym y));
       kept = λ g z. let y : ◌≡◌ {A = ℕ} 0 1 = cc in absurd (omega arith);
     }

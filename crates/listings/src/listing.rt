@@ -34,6 +34,6 @@ pub fn list_lines(
     if buffer.len() < needed {
         return Err(Ground::Buffer.at(needed));
     }
-    write_listing(&mut buffer[0..needed], pins, nodes, order, numbers, lines);
+    write_listing(&mut buffer[..needed], pins, nodes, order, numbers, lines);
     Ok(needed)
 }

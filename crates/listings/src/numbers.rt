@@ -54,12 +54,8 @@ pub(crate) fn number_nodes<'a>(
     ensures numbers { Numbers pins nodes.now work.old lines.now result.0.now result.1.now }
 {
     let len = nodes.len();
-    let room = work.len();
-    if len > MOST_NODES {
-        return work.split_at_mut(0);
-    }
-    if room < 4 * len {
-        return work.split_at_mut(0);
+    if len > MOST_NODES || work.len() < 4 * len {
+        return (&mut [], &mut []);
     }
     let (order, rest) = work.split_at_mut(len);
     let (numbers, rest) = rest.split_at_mut(len);

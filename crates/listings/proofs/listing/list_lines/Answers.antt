@@ -1,4 +1,4 @@
-use Rattle.std.proofs.Common.{◌≡◌, ◌-◌, length, drop, ap, arith}
+use Rattle.std.proofs.Common.{length}
 use Rattle.listings.proofs.Listed.{too_many_pins, buffer_short, buffer_written}
 use Rattle.listings.proofs.listing.list_lines.Goals as goal
 
@@ -13,9 +13,5 @@ returns-then-buffer-needed c =
 
 pub returns : goal.returns
 returns c =
-    let order = c.number_nodes-order.result.0.now in
-    let pins = c.args.pins.now in
-    let needed = c.listing_length-needed.result in
-    let z : needed - 0 ≡ needed = omega arith in
-    buffer_written c.args.nodes.now c.args.work.now pins order c.number_nodes-order.result.1.now c.args.lines.now c.args.buffer.now
-    c.told-lines c.if-pin_count-gt20.false c.number_nodes-order.ensures.numbers needed c.listing_length-needed.ensures c.write_listing.new.room _ c.if-buffer-needed.false c.write_listing.ensures (ap (λ x. drop x c.args.buffer.now) z)
+    buffer_written c.args.nodes.now c.args.work.now c.args.pins.now c.number_nodes-order.result.0.now c.number_nodes-order.result.1.now c.args.lines.now c.args.buffer.now
+    c.told-lines c.if-pin_count-gt20.false c.number_nodes-order.ensures.numbers c.listing_length-needed.result c.listing_length-needed.ensures c.write_listing.new.room c.if-buffer-needed.false c.write_listing.ensures
