@@ -126,19 +126,19 @@ numbers_none n nodes d is rows room order late us ready long enough =
     sym (ap (λ h. order ++ numbering (listed nodes) h d (map node is)) z ∙ append-nil order)
 
 -- one place, and then the others
-pub numbers_place : (n : ℕ) (nodes : List Node) (d : ℕ) (is : List ℕ) (rows room : ℕ) (order order₁ : List ℕ) (rows₁ : ℕ) (ks seen : List ℕ) (rows₂ room₁ : ℕ) (order₂ : List ℕ)
-    → d < n → rows₁ ≡ rows → length seen ≡ rows → rows₂ ≡ rows → room₁ ≡ room
-    → PicksAll (listed nodes) d is room order order₁ → Advances (listed nodes) d is rows₁ ks seen → NumbersFrom n nodes (d + 1) ks rows₂ room₁ order₁ order₂
+pub numbers_place : (n : ℕ) (nodes : List Node) (d : ℕ) (is : List ℕ) (rows room : ℕ) (order order₁ : List ℕ) (rows₁ : ℕ) (ks seen order₂ : List ℕ)
+    → d < n → rows₁ ≡ rows → length seen ≡ rows
+    → PicksAll (listed nodes) d is room order order₁ → Advances (listed nodes) d is rows₁ ks seen → NumbersFrom n nodes (d + 1) ks rows room order₁ order₂
     → NumbersFrom n nodes d is rows room order order₂
-numbers_place n nodes d is rows room order order₁ rows₁ ks seen rows₂ room₁ order₂ small same₁ wide same₂ same picks advances rest us ready long enough =
+numbers_place n nodes d is rows room order order₁ rows₁ ks seen order₂ small same wide picks advances rest us ready long enough =
     let T = listed nodes in
     let h = n - suc d in
     let e : n - d ≡ suc h = omega arith in
     let e₁ : n - (d + 1) ≡ h = omega arith in
     let e₂ : d + 1 ≡ suc d = omega arith in
     let short = front_short n nodes us d is ready in
-    let leading = subst (λ (x : ℕ). LeadsInside x T d is) (sym (same₁ ∙ long)) (front_leads n nodes us d is ready) in
-    let g = advances (wide ∙ sym same₁) short leading in
+    let leading = subst (λ (x : ℕ). LeadsInside x T d is) (sym (same ∙ long)) (front_leads n nodes us d is ready) in
+    let g = advances (wide ∙ sym same) short leading in
     let step = ap (λ k. numbering T k d (map node is)) e ∙ numbering_step T h d is ks ready.apart g.holds in
     let l₀ = ap length step in
     let l₁ = length-append (keep (asks T d) is) (numbering T h (suc d) (map node ks)) in
@@ -147,7 +147,7 @@ numbers_place n nodes d is rows room order order₁ rows₁ ks seen rows₂ room
     let p₂ = length-append order (keep (asks T d) is) in
     let next = ap₂ (λ k q. numbering T k q (map node ks)) e₁ e₂ in
     let next_long = ap length next in
-    let r = rest us (subst (λ (q : ℕ). Ready n nodes us q ks) (sym e₂) (ready_next n nodes us d is ready ks g.holds)) (same₂ ∙ long) (omega arith) in
+    let r = rest us (subst (λ (q : ℕ). Ready n nodes us q ks) (sym e₂) (ready_next n nodes us d is ready ks g.holds)) long (omega arith) in
     r ∙ (ap₂ ◌++◌ p next ∙ (append_assoc order (keep (asks T d) is) (numbering T h (suc d) (map node ks)) ∙ ap (λ xs. order ++ xs) (sym step)))
 
 -- the numbers of a numbering are few, since each is a node of the table, and none stands twice

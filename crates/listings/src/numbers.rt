@@ -5,29 +5,28 @@ ghost use Rattle.listings.specs.Numbers.{NumbersFrom, Inverts, Numbers};
 use crate::fronts::{advance, meet_lines, pick_all};
 use crate::row::Row;
 use model::Node;
+use std::mem::swap;
 use tables::indexing::MOST_NODES;
 use tables::line::Line;
 
 // Numbers what is reached from a front, place by place. The two rows change parts from place to place.
-fn number_from(
+fn number_from<'a>(
     nodes: &[Node],
-    front: &mut Row<u32>,
-    ahead: &mut Row<u32>,
+    front: &mut Row<'a, u32>,
+    ahead: &mut Row<'a, u32>,
     seen: &mut [u32],
     order: &mut Row<u32>,
     pins: u8,
-    place: u8,
 )
     ensures room { room order.new ≡ room order.old }
-    ensures numbers { room ahead.old ≡ room front.old → length seen.old ≡ room front.old → NumbersFrom pins nodes.now place (filled front.old) (room front.old) (room order.old) (filled order.old) (filled order.new) }
+    ensures numbers { room ahead.old ≡ room front.old → length seen.old ≡ room front.old → NumbersFrom pins nodes.now 0 (filled front.old) (room front.old) (room order.old) (filled order.old) (filled order.new) }
 {
-    if place >= pins {
-        return;
+    for place in 0..pins {
+        let here = front.filled();
+        pick_all(nodes, here, order, place);
+        advance(nodes, here, ahead, seen, place);
+        swap(front, ahead);
     }
-    let here = front.filled();
-    pick_all(nodes, here, order, place);
-    advance(nodes, here, ahead, seen, place);
-    number_from(nodes, ahead, front, seen, order, pins, place + 1);
 }
 
 // Writes the index of each node of a list at the node's own entry.
@@ -65,7 +64,7 @@ pub(crate) fn number_nodes<'a>(
     let mut front = Row::over(front);
     let mut ahead = Row::over(ahead);
     meet_lines(&mut front, numbers, lines);
-    number_from(nodes, &mut front, &mut ahead, numbers, &mut order, pins, 0);
+    number_from(nodes, &mut front, &mut ahead, numbers, &mut order, pins);
     let order = order.into_filled();
     invert(order, numbers);
     (order, numbers)
