@@ -19,6 +19,7 @@ pub(crate) fn number_in(entry: u32) -> u16
 }
 
 // Puts the node of a branch behind a front, if it is not there yet.
+// The marks stand apart from the row: both rows of nodes use them in turn.
 fn meet(front: &mut Row<u32>, seen: &mut [u32], branch: Branch)
     ensures room { room front.new ≡ room front.old }
     ensures meets { Meets (room front.old) (filled front.old) seen.old branch (filled front.new) seen.new }

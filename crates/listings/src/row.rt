@@ -1,6 +1,6 @@
 ghost use Rattle.std.specs.Prelude.{◌≡◌, ◌+◌, ◌<◌, ◌≤◌, [], ◌∷◌, ◌++◌, length};
 
-// A slice that was lent, filled from its front.
+// A slice that was lent, filled from its front: there is no heap for a `Vec`.
 #[derive(Drop)]
 pub(crate) struct Row<'a, T> {
     pub(crate) entries: &'a mut [T],
