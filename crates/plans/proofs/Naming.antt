@@ -1,7 +1,10 @@
 -- Positions of an order, and its pins.
-use Rattle.std.proofs.Common.{◌≡◌, ℕ, zero, suc, ◌+◌, ◌<◌, ◌≤◌, Bool, true, false, cond, List, [], ◌∷◌, length, get_or, drop, Some, None, Option, sym, refl, ap, ◌∙◌, subst, inl, inr, zero-add, add-one, arith, drop-cons, le-ltb, eq-eqb, ne_eqb}
+use Rattle.std.proofs.Common.{◌≡◌, ℕ, zero, suc, ◌<◌, ◌≤◌, Bool, true, false, cond, ◌||◌, ◌==◌, List, [], ◌∷◌, length, get_or, take, Some, None, Option, sym, refl, ap, ◌∙◌, subst, inl, inr, add-one, arith, le-ltb, ne_eqb}
 use borrow.Author.Tests.{lt-leb}
-use Rattle.std.proofs.lemmas.List.{drop_all}
+use Rattle.std.specs.List.{list_any, AllWithin, HoldsAt}
+use Rattle.std.proofs.lemmas.List.Folds.{list_any_more}
+use Rattle.std.proofs.lemmas.Iterator.{index_from_first}
+use Rattle.std.specs.Option.{MatchOption, option_map, unwrap_or}
 use Rattle.std.proofs.lemmas.Bool.Decides.{eqb_tells, nat_tests}
 use Rattle.faults.specs.declared.fault.Fault.{Fault}
 use Rattle.faults.specs.declared.fault.Ground.TheVariants.{OrderPin}
@@ -11,11 +14,15 @@ use Rattle.model.specs.Orders.{Order, place_in}
 use Rattle.plans.specs.Orders.{among, misplaced, misplaced_below, OrdersTold}
 use Rattle.plans.specs.Plain.{make_told}
 
--- one step of the scans
-pub among_more : (order : List ℕ) (p i : ℕ) → among order p i ≡ false → (get_or order i 0 ≡ p → ⊥) → among order p (i + 1) ≡ false
-among_more order p i e ne = ap (among order p) (add-one i) ∙ grind (arith, nat_tests)
+-- what a search of the front tells
+pub any_among : (order : List ℕ) (p k : ℕ) → k ≤ length order → list_any (λ q. q == p) (take k order) ≡ among order p k
+any_among order p zero l = refl
+any_among order p (suc k) l =
+    let r = any_among order p k (omega arith) in
+    let e = list_any_more (λ q. q == p) order k 0 l in
+    ap (λ n. list_any (λ q. q == p) (take n order)) (sym (add-one k)) ∙ e ∙ ap (λ b. b || get_or order k 0 == p) r
 
-pub among_found : (order : List ℕ) (p i : ℕ) → get_or order i 0 ≡ p → (k : ℕ) → i < k → among order p k ≡ true
+among_found : (order : List ℕ) (p i : ℕ) → get_or order i 0 ≡ p → (k : ℕ) → i < k → among order p k ≡ true
 among_found order p i e zero h = absurd (omega arith)
 among_found order p i e (suc k) h =
     elim (eqb_tells i k) [
@@ -23,10 +30,7 @@ among_found order p i e (suc k) h =
       | inr t ↦ (let r = among_found order p i e k (omega (arith, t.1)) in simp r)
     ]
 
-pub below_more : (order : List ℕ) (i : ℕ) → misplaced_below order i ≡ None → misplaced order i ≡ false → misplaced_below order (i + 1) ≡ None
-below_more order i e m = ap (misplaced_below order) (add-one i) ∙ simp (e, m)
-
-pub below_found : (order : List ℕ) (i : ℕ) → misplaced_below order i ≡ None → misplaced order i ≡ true → (k : ℕ) → i < k → misplaced_below order k ≡ Some (at OrderPin i)
+below_found : (order : List ℕ) (i : ℕ) → misplaced_below order i ≡ None → misplaced order i ≡ true → (k : ℕ) → i < k → misplaced_below order k ≡ Some (at OrderPin i)
 below_found order i e m zero h = absurd (omega arith)
 below_found order i e m (suc k) h =
     elim (eqb_tells i k) [
@@ -117,27 +121,14 @@ unfolding Distinct
 orders_told order =
     (is_order order, λ o. each_none order (length order) (λ i h. placed_at order i (o.small (get_or order i 0) (at_in order i h)) (among_none order (get_or order i 0) i (λ j l q. apart_distinct order o.once j i l h q))))
 
--- the place of a pin, sought from the front
-pub place_begins : (order : List ℕ) (p : ℕ) → place_in order p ≡ 0 + place_in (drop 0 order) p
-place_begins order p = sym (zero-add (place_in order p))
+-- what a search over the positions tells
+pub searched : (order : List ℕ) (a z : ℕ) → a ≡ 0 → z ≡ length order → (r : Option ℕ)
+    → MatchOption r ((k : ℕ) → a ≤ k → k < z → misplaced order k ≡ false) (λ i. (a ≤ i) × (i < z) × (misplaced order i ≡ true) × ((k : ℕ) → a ≤ k → k < i → misplaced order k ≡ false))
+    → misplaced_below order (length order) ≡ option_map (at OrderPin) r
+searched order a z b e (Some i) m = let l = m.1 in below_found order i (each_none order i (λ k h. m.3 k (omega arith) h)) m.2 (length order) (omega arith)
+searched order a z b e None m = each_none order (length order) (λ k h. m k (omega arith) (omega arith))
 
-module _ (order : List ℕ) (p i : ℕ) (l : i < length order) where
-  here : drop i order ≡ get_or order i 0 ∷ drop (i + 1) order
-  here = drop-cons order i 0 l ∙ ap (λ x. get_or order i 0 ∷ drop x order) (sym (add-one i))
-
-  pub place_more : (get_or order i 0 ≡ p → ⊥) → place_in order p ≡ i + place_in (drop i order) p → place_in order p ≡ i + 1 + place_in (drop (i + 1) order) p
-  place_more ne e =
-      let q : place_in (drop i order) p ≡ suc (place_in (drop (i + 1) order) p) =
-      ap (λ ps. place_in ps p) here ∙ ap (λ b. cond b 0 (suc (place_in (drop (i + 1) order) p))) (ne_eqb p (get_or order i 0) (λ z. ne (sym z))) in
-      omega arith
-
-  pub place_here : get_or order i 0 ≡ p → place_in order p ≡ i + place_in (drop i order) p → i ≡ place_in order p
-  place_here y e =
-      let q : place_in (drop i order) p ≡ 0 =
-      ap (λ ps. place_in ps p) here ∙ ap (λ b. cond b 0 (suc (place_in (drop (i + 1) order) p))) (eq-eqb p (get_or order i 0) (sym y)) in
-      omega arith
-
-pub place_none : (order : List ℕ) (p i : ℕ) → length order ≤ i → place_in order p ≡ i + place_in (drop i order) p → i ≤ length order → length order ≡ place_in order p
-place_none order p i l e h =
-    let q : place_in (drop i order) p ≡ 0 = ap (λ ps. place_in ps p) (drop_all i order l) in
-    omega arith
+-- the place of a pin, from the first position that has it
+pub place_found : (order : List ℕ) (p : ℕ) (r : Option ℕ)
+    → MatchOption r (AllWithin (λ q. q ≡ p → ⊥) order 0 (length order)) (λ i. (i < length order) × HoldsAt (λ q. q ≡ p) order i × AllWithin (λ q. q ≡ p → ⊥) order 0 i) → place_in order p ≡ unwrap_or r (length order)
+place_found order p r m = index_from_first (λ ps. place_in ps p) (λ q. q ≡ p) (λ q. q ≡ p → ⊥) refl (λ q qs e. grind (arith, nat_tests)) (λ q qs e. grind (arith, nat_tests)) order r m

@@ -10,12 +10,7 @@ fn is_among(order: &[u8], pin: u8, k: usize) -> bool
     requires { k ≤ length order.now }
     ensures { result ≡ among order.now pin k }
 {
-    for i in 0..k {
-        if order[i] == pin {
-            return true;
-        }
-    }
-    false
+    order[..k].contains(&pin)
 }
 
 fn is_misplaced(order: &[u8], i: usize) -> bool
@@ -29,12 +24,10 @@ fn is_misplaced(order: &[u8], i: usize) -> bool
 pub(crate) fn check_order(order: &[u8]) -> Result<(), Fault>
     ensures { refusal result ≡ misplaced_below order.now (length order.now) }
 {
-    for i in 0..order.len() {
-        if is_misplaced(order, i) {
-            return Err(Ground::OrderPin.at(i));
-        }
+    match (0..order.len()).find(|i| is_misplaced(order, *i)) {
+        Some(i) => Err(Ground::OrderPin.at(i)),
+        None => Ok(()),
     }
-    Ok(())
 }
 
 // The order in the room of a header.
@@ -43,9 +36,7 @@ pub(crate) fn padded(order: &[u8]) -> [u8; 20]
     ensures { take (length order.now) result ≡ order.now }
 {
     let mut room = [0; 20];
-    for i in 0..order.len() {
-        room[i] = order[i];
-    }
+    room[..order.len()].copy_from_slice(order);
     room
 }
 
@@ -54,10 +45,6 @@ pub(crate) fn place_of_pin(order: &[u8], pin: u8) -> u8
     requires { length order.now ≤ 20 }
     ensures { result ≡ place_in order.now pin }
 {
-    for i in 0..order.len() {
-        if order[i] == pin {
-            return i as u8;
-        }
-    }
-    order.len() as u8
+    let place = order.iter().position(|p| *p == pin);
+    place.unwrap_or(order.len()) as u8
 }

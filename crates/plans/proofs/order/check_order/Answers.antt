@@ -1,10 +1,21 @@
-use Rattle.std.proofs.Common.{length, Some, sym, ap, ◌∙◌, arith}
-use Rattle.plans.proofs.Naming.{below_more, below_found}
+use Rattle.std.proofs.Common.{◌≡◌, true, false, Some, rules, refl, sym, ap, ◌∙◌}
+use Rattle.std.proofs.lemmas.Iterator.{first_from_Range}
+use Rattle.std.specs.Option.{option_map}
+use Rattle.faults.specs.Refusals.{at}
+use Rattle.faults.specs.declared.fault.Ground.TheVariants.{OrderPin}
+use Rattle.plans.specs.Orders.{misplaced}
+use Rattle.plans.proofs.Naming.{searched}
 use Rattle.plans.proofs.order.check_order.Goals as goal
 
-pub loop-i-preserved : goal.loop-i-preserved
-loop-i-preserved c = below_more c.args.order.now c.loop-i.i c.loop-i.invariant (sym c.is_misplaced.ensures ∙ c.if-is_misplaced.false)
+pub returns-in-Some : goal.returns-in-Some
+returns-in-Some c =
+    let order = c.args.order.now in
+    ap Some c.at.ensures
+    ∙ sym (searched order _ _ refl refl c.find.result (first_from_Range _ _ _ c.find.result (λ k. misplaced order k ≡ true) (λ k. misplaced order k ≡ false) c.find.ensures.ran (λ x q e. search rules) (λ x q e. search rules))
+    ∙ ap (option_map (at OrderPin)) c.in-Some.is)
 
-pub returns-then-is_misplaced : goal.returns-then-is_misplaced
-returns-then-is_misplaced c =
-    ap Some c.at.ensures ∙ sym (below_found c.args.order.now c.loop-i.i c.loop-i.invariant (sym c.is_misplaced.ensures ∙ c.if-is_misplaced.true) (length c.args.order.now) (omega arith))
+pub returns-in-None : goal.returns-in-None
+returns-in-None c =
+    let order = c.args.order.now in
+    sym (searched order _ _ refl refl c.find.result (first_from_Range _ _ _ c.find.result (λ k. misplaced order k ≡ true) (λ k. misplaced order k ≡ false) c.find.ensures.ran (λ x q e. search rules) (λ x q e. search rules))
+    ∙ ap (option_map (at OrderPin)) c.in-None.is)
