@@ -10,7 +10,7 @@ use Rattle.model.specs.Selections.{Selection, view_of}
 use Rattle.trees.specs.Mixed.{mixed_blocks}
 use Rattle.growths.specs.Growths.{Grows}
 use Rattle.plans.specs.declared.header.Header.{Header}
-use Rattle.plans.specs.Plain.{Plain, Call, draw, pins, is_held, input_refusal, state_told, work_size, too_many_parts}
+use Rattle.plans.specs.Plain.{Plain, Call, draw, pins, is_held, input_refusal, draw_refusal, state_told, work_size, too_many_parts}
 use Rattle.plans.specs.Holding.{Holds, Did, order_of}
 use Rattle.plans.specs.Settling.{Settles}
 use Rattle.plans.proofs.Holdings.{heads_pins, held_line, empty_line}
@@ -28,11 +28,11 @@ draw_pins n size d m f nodes tree work e = grind (arith, nat_tests)
 pub draw_line : (n size d m : ℕ) (f : Selection) (nodes tree work : ℕ) → None ≡ input_refusal n size (draw d m f nodes tree work) → d < 32
 draw_line n size d m f nodes tree work e = grind (arith, nat_tests)
 
-pub draw_nodes : (n size d m : ℕ) (f : Selection) (nodes tree work : ℕ) → None ≡ input_refusal n size (draw d m f nodes tree work) → nodes ≡ size
-draw_nodes n size d m f nodes tree work e = grind (arith, nat_tests)
-
 pub draw_work : (n size d m : ℕ) (f : Selection) (nodes tree work : ℕ) → None ≡ input_refusal n size (draw d m f nodes tree work) → work_size n size ≤ work
 draw_work n size d m f nodes tree work e = grind (arith, nat_tests)
+
+pub draw_tables : (n size m d nodes work : ℕ) → None ≡ draw_refusal n size m d nodes work → (nodes ≡ size) × (3 * size + 2 ≤ work)
+draw_tables n size m d nodes work e = (grind (arith, nat_tests), work_enough n size work (grind (arith, nat_tests)))
 
 module _ (h : Header) (nodes : List Node) (d m : ℕ) (f : Selection) (tree work : ℕ) (clear : None ≡ input_refusal h.pins h.size (draw d m f (length nodes) tree work)) where
   abbrev call : Call
@@ -71,9 +71,8 @@ module _ (h : Header) (nodes : List Node) (d m : ℕ) (f : Selection) (tree work
         where
           enough : 3 * length nodes + 2 ≤ length ws
           enough =
-              let e = draw_nodes h.pins h.size d m f (length nodes) tree work clear in
-              let w = work_enough h.pins h.size work (draw_work h.pins h.size d m f (length nodes) tree work clear) in
-              omega (arith, e, w, long)
+              let t = draw_tables h.pins h.size m d (length nodes) work clear in
+              omega (arith, t, long)
 
           same_view : (p : Plain) → Holds h nodes p → view_of h.pins (order_of h) f ≡ view_of (pins p) p.order f
           same_view p o = ap₂ (λ k ps. view_of k ps f) (sym (heads_pins h p o.heads)) (sym o.heads.order)

@@ -17,7 +17,7 @@ use Rattle.growths.specs.Codes.{all_codes}
 use Rattle.growths.specs.Growths.{Grows}
 use Rattle.growths.proofs.Passing.{every_address_passes}
 use Rattle.plans.specs.declared.header.Header.{Header}
-use Rattle.plans.specs.Plain.{Plain, Call, join, pins, line, is_held, with_line, join_lines, undecoded, line_undecoded, input_refusal, work_size, too_many_parts}
+use Rattle.plans.specs.Plain.{Plain, Call, join, pins, line, is_held, with_line, join_lines, undecoded, line_undecoded, input_refusal, join_refusal, too_many_parts}
 use Rattle.plans.specs.Decoding.{Checks}
 use Rattle.plans.specs.Holding.{Holds, Did}
 use Rattle.plans.specs.Results.{refusal}
@@ -26,7 +26,7 @@ use Rattle.plans.proofs.Holdings.{heads_pins, diagram, roots_from, held_line, em
 use Rattle.plans.proofs.Changing.{state_did, work_enough, grown_beside, settled_call}
 
 -- what the arguments have in hand
-module _ (n size : ℕ) (decoding : ℕ → Bool) (g : ℕ → ℕ → ℕ) (a b d nodes work : ℕ) (clear : None ≡ input_refusal n size (join decoding g a b d nodes work)) where
+module _ (n size a b d nodes work : ℕ) (clear : None ≡ join_refusal n size a b d nodes work) where
   pub join_left : a < 32
   join_left = grind (arith, nat_tests)
 
@@ -36,11 +36,8 @@ module _ (n size : ℕ) (decoding : ℕ → Bool) (g : ℕ → ℕ → ℕ) (a b
   pub join_to : d < 32
   join_to = grind (arith, nat_tests)
 
-  pub join_nodes : nodes ≡ size
-  join_nodes = grind (arith, nat_tests)
-
-  pub join_work : work_size n size ≤ work
-  join_work = grind (arith, nat_tests)
+  pub join_tables : (nodes ≡ size) × (3 * size + 2 ≤ work)
+  join_tables = (grind (arith, nat_tests), work_enough n size work (grind (arith, nat_tests)))
 
 -- one of the codes is not decoded exactly when not every code of the tree is
 decoded_below : (decoding : ℕ → Bool) (k : ℕ) (f : Selection) → undecoded decoding k f ≡ false → (x : ℕ) → x < k → decoding (f x) ≡ true
@@ -84,13 +81,13 @@ module _ (h : Header) (nodes : List Node) (decoding : ℕ → Bool) (g : ℕ →
   call = join decoding g a b d (length nodes) work
 
   left : a < 32
-  left = join_left h.pins h.size decoding g a b d (length nodes) work clear
+  left = join_left h.pins h.size a b d (length nodes) work clear
 
   right : b < 32
-  right = join_right h.pins h.size decoding g a b d (length nodes) work clear
+  right = join_right h.pins h.size a b d (length nodes) work clear
 
   to : d < 32
-  to = join_to h.pins h.size decoding g a b d (length nodes) work clear
+  to = join_to h.pins h.size a b d (length nodes) work clear
 
   -- the grounds of the lines, by what the lines hold
   abbrev grounds : Plain → Option Selection → Option Selection → Option Selection → Option Fault
@@ -189,9 +186,8 @@ module _ (h : Header) (nodes : List Node) (decoding : ℕ → Bool) (g : ℕ →
             where
               enough : 3 * length nodes + 2 ≤ length ws
               enough =
-                  let e = join_nodes h.pins h.size decoding g a b d (length nodes) work clear in
-                  let w = work_enough h.pins h.size work (join_work h.pins h.size decoding g a b d (length nodes) work clear) in
-                  omega (arith, e, w, long)
+                  let t = join_tables h.pins h.size a b d (length nodes) work clear in
+                  omega (arith, t, long)
 
               same : (p : Plain) (o : Holds h nodes p) → join_trees g (tree (listed nodes) h.pins 0 x) (tree (listed nodes) h.pins 0 y) ≡ view_of (pins p) p.order (joined g (fa p o) (fb p o))
               same p o =

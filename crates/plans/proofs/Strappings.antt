@@ -15,14 +15,14 @@ use Rattle.model.proofs.Views.{straps}
 use Rattle.model.proofs.Walks.{tree_means}
 use Rattle.growths.specs.Growths.{Grows}
 use Rattle.plans.specs.declared.header.Header.{Header}
-use Rattle.plans.specs.Plain.{Plain, Call, strap, pins, line, is_held, with_line, strap_line, input_refusal, work_size, too_many_parts}
+use Rattle.plans.specs.Plain.{Plain, Call, strap, pins, line, is_held, with_line, strap_line, input_refusal, strap_refusal, too_many_parts}
 use Rattle.plans.specs.Holding.{Holds, Did, order_of}
 use Rattle.plans.specs.Settling.{Settles}
 use Rattle.plans.proofs.Holdings.{heads_pins, held_line, empty_line, root_stands, order_is}
 use Rattle.plans.proofs.Changing.{state_did, work_enough, grown_beside, settled_call}
 
 -- what the arguments have in hand
-module _ (n size a pin : ℕ) (high : Bool) (d nodes work : ℕ) (clear : None ≡ input_refusal n size (strap a pin high d nodes work)) where
+module _ (n size a pin d nodes work : ℕ) (clear : None ≡ strap_refusal n size a pin d nodes work) where
   pub strap_from : a < 32
   strap_from = grind (arith, nat_tests)
 
@@ -32,21 +32,18 @@ module _ (n size a pin : ℕ) (high : Bool) (d nodes work : ℕ) (clear : None �
   pub strap_pin : pin < n
   strap_pin = grind (arith, nat_tests)
 
-  pub strap_nodes : nodes ≡ size
-  strap_nodes = grind (arith, nat_tests)
-
-  pub strap_work : work_size n size ≤ work
-  strap_work = grind (arith, nat_tests)
+  pub strap_tables : (nodes ≡ size) × (3 * size + 2 ≤ work)
+  strap_tables = (grind (arith, nat_tests), work_enough n size work (grind (arith, nat_tests)))
 
 module _ (h : Header) (nodes : List Node) (a pin : ℕ) (high : Bool) (d work : ℕ) (clear : None ≡ input_refusal h.pins h.size (strap a pin high d (length nodes) work)) where
   abbrev call : Call
   call = strap a pin high d (length nodes) work
 
   from : a < 32
-  from = strap_from h.pins h.size a pin high d (length nodes) work clear
+  from = strap_from h.pins h.size a pin d (length nodes) work clear
 
   to : d < 32
-  to = strap_to h.pins h.size a pin high d (length nodes) work clear
+  to = strap_to h.pins h.size a pin d (length nodes) work clear
 
   -- the grounds of the lines, by what the lines hold
   abbrev grounds : Plain → Option Selection → Option Selection → Option Fault
@@ -81,15 +78,14 @@ module _ (h : Header) (nodes : List Node) (a pin : ℕ) (high : Bool) (d work : 
       where
         enough : 3 * length nodes + 2 ≤ length ws
         enough =
-            let e = strap_nodes h.pins h.size a pin high d (length nodes) work clear in
-            let w = work_enough h.pins h.size work (strap_work h.pins h.size a pin high d (length nodes) work clear) in
-            omega (arith, e, w, long)
+            let t = strap_tables h.pins h.size a pin d (length nodes) work clear in
+            omega (arith, t, long)
 
         same : (p : Plain) (o : Holds h nodes p) → strap_tree (place_in (order_of h) pin) high (tree (listed nodes) h.pins 0 b) ≡ view_of (pins p) p.order (strapped (pins p) pin high (held_line h nodes p o a from b held_a).0)
         same p o =
             let k = held_line h nodes p o a from b held_a in
             let n = pins p in
-            let small : pin < n = subst (λ (x : ℕ). pin < x) (sym (heads_pins h p o.heads)) (strap_pin h.pins h.size a pin high d (length nodes) work clear) in
+            let small : pin < n = subst (λ (x : ℕ). pin < x) (sym (heads_pins h p o.heads)) (strap_pin h.pins h.size a pin d (length nodes) work clear) in
             let means : tree (listed nodes) n 0 b ≡ view_of n p.order k.0 = (tree_means n p.order (order_is h nodes p o) (listed nodes) b k.0).1 k.2 in
             ap₂ (λ ps x. strap_tree (place_in ps pin) high (tree (listed nodes) x 0 b)) (sym o.heads.order) (sym (heads_pins h p o.heads))
             ∙ ap (strap_tree (place_in p.order pin) high) means ∙ sym (straps n p.order (order_is h nodes p o) pin high k.0 small)

@@ -96,10 +96,20 @@ strap_line n pin high (Some f) = Some (strapped n pin high f)
 strap_line n pin high None = None
 
 -- The refusals that come from the arguments, at n pins and a table of so many nodes, whatever the lines hold.
+
+abbrev pub draw_refusal : (n size pins line nodes work : ℕ) → Option Fault
+draw_refusal n size m d nodes work = refuse_if (not (m == n)) (at ground.SourcePins m) (no_line d (other_tables n size nodes work))
+
+abbrev pub join_refusal : (n size a b d nodes work : ℕ) → Option Fault
+join_refusal n size a b d nodes work = no_line a (no_line b (no_line d (other_tables n size nodes work)))
+
+abbrev pub strap_refusal : (n size a pin d nodes work : ℕ) → Option Fault
+strap_refusal n size a pin d nodes work = no_line a (no_line d (refuse_if (nat_le n pin) (at ground.StrapPin pin) (other_tables n size nodes work)))
+
 abbrev pub input_refusal : (n size : ℕ) → Call → Option Fault
-input_refusal n size (draw d m f nodes tree work) = refuse_if (not (m == n)) (at ground.SourcePins m) (no_line d (other_tables n size nodes work))
-input_refusal n size (join decodes g a b d nodes work) = no_line a (no_line b (no_line d (other_tables n size nodes work)))
-input_refusal n size (strap a pin high d nodes work) = no_line a (no_line d (refuse_if (nat_le n pin) (at ground.StrapPin pin) (other_tables n size nodes work)))
+input_refusal n size (draw d m f nodes tree work) = draw_refusal n size m d nodes work
+input_refusal n size (join decodes g a b d nodes work) = join_refusal n size a b d nodes work
+input_refusal n size (strap a pin high d nodes work) = strap_refusal n size a pin d nodes work
 input_refusal n size (erase d nodes work) = no_line d (other_tables n size nodes work)
 
 abbrev pub input_told : Plain → Call → Option Fault

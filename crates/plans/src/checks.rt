@@ -1,82 +1,89 @@
-// The refusals that come from the arguments of a call.
-ghost use Rattle.std.specs.Prelude.{◌≡◌, ℕ, ◌^◌, ◌<◌, ◌≤◌, length, None, MatchResult, slice_index_or};
+// The refusals that come from the arguments of a call, and from what its lines hold.
+ghost use Rattle.std.specs.Prelude.{◌≡◌, ℕ, ◌^◌, length, None, IfOk, MatchResult, slice_index_or};
 ghost use Rattle.faults.specs.Refusals.{at};
 ghost use Rattle.faults.specs.declared.fault.Ground.TheVariants.{LineEmpty, LineTaken};
-ghost use Rattle.plans.specs.Plain.{no_line, other_table, other_tables, count_refusal, read_refusal};
+ghost use Rattle.plans.specs.Plain.{other_table, other_tables, count_refusal, read_refusal};
 ghost use Rattle.plans.specs.Results.{refusal};
 
 use crate::header::Header;
+use crate::line_number::LineNumber;
 use faults::fault::{Fault, Ground};
 use model::Branch;
 use tables::line::Line;
 
-// Lines are numbered from 0 to 31.
-pub(crate) fn check_line(line: u8) -> Result<(), Fault>
-    ensures { refusal result ≡ no_line line None }
-{
-    if line > 31 {
-        return Err(Ground::NoLine.at(line as usize));
+impl Header {
+    pub(crate) fn check_nodes(&self, nodes: usize) -> Result<(), Fault>
+        ensures { refusal result ≡ other_table self.now.size nodes None }
+    {
+        if nodes != self.size {
+            return Err(Ground::NodeTable.at(nodes));
+        }
+        Ok(())
     }
-    Ok(())
-}
 
-pub(crate) fn check_nodes(header: &Header, nodes: usize) -> Result<(), Fault>
-    ensures { refusal result ≡ other_table header.now.size nodes None }
-{
-    if nodes != header.size {
-        return Err(Ground::NodeTable.at(nodes));
+    pub(crate) fn check_tables(&self, nodes: usize, work: usize) -> Result<(), Fault>
+        ensures { refusal result ≡ other_tables self.now.pins self.now.size nodes work }
+    {
+        self.check_nodes(nodes)?;
+        if work < 4 * (self.pins as usize + 1) * (self.size + 2) {
+            return Err(Ground::Work.at(work));
+        }
+        Ok(())
     }
-    Ok(())
-}
 
-pub(crate) fn check_tables(header: &Header, nodes: usize, work: usize) -> Result<(), Fault>
-    ensures { refusal result ≡ other_tables header.now.pins header.now.size nodes work }
-{
-    check_nodes(header, nodes)?;
-    if work < 4 * (header.pins as usize + 1) * (header.size + 2) {
-        return Err(Ground::Work.at(work));
+    // What erase and count ask of their arguments.
+    pub(crate) fn check_held(
+        &self,
+        line: u8,
+        nodes: usize,
+        work: usize,
+    ) -> Result<LineNumber, Fault>
+        ensures told { refusal result ≡ count_refusal self.now.pins self.now.size line nodes work }
+        ensures same { IfOk result (λ at. at.number ≡ line) }
+    {
+        let line = LineNumber::new(line)?;
+        self.check_tables(nodes, work)?;
+        Ok(line)
     }
-    Ok(())
-}
 
-// What erase and count ask of their arguments.
-pub(crate) fn check_held(header: &Header, line: u8, nodes: usize, work: usize) -> Result<(), Fault>
-    ensures { refusal result ≡ count_refusal header.now.pins header.now.size line nodes work }
-{
-    check_line(line)?;
-    check_tables(header, nodes, work)
-}
-
-pub(crate) fn check_read(header: &Header, line: u8, address: u32, nodes: usize) -> Result<(), Fault>
-    ensures { refusal result ≡ read_refusal header.now.pins header.now.size line address nodes }
-{
-    check_line(line)?;
-    if address >= 1 << header.pins {
-        return Err(Ground::ReadAddress.at(address as usize));
+    pub(crate) fn check_read(
+        &self,
+        line: u8,
+        address: u32,
+        nodes: usize,
+    ) -> Result<LineNumber, Fault>
+        ensures told { refusal result ≡ read_refusal self.now.pins self.now.size line address nodes }
+        ensures same { IfOk result (λ at. at.number ≡ line) }
+    {
+        let line = LineNumber::new(line)?;
+        if address >= 1 << self.pins {
+            return Err(Ground::ReadAddress.at(address as usize));
+        }
+        self.check_nodes(nodes)?;
+        Ok(line)
     }
-    check_nodes(header, nodes)
-}
 
-// The root of a held line; an empty one stops the call.
-pub(crate) fn root_of(header: &Header, line: u8) -> Result<Branch, Fault>
-    requires { line < 32 }
-    ensures { MatchResult result (λ root. slice_index_or header.now.lines line None ≡ Some root) (λ f. (slice_index_or header.now.lines line None ≡ None) × (f ≡ at LineEmpty line)) }
-{
-    let line_at = header.lines[line as usize];
-    let Some(root) = line_at else {
-        return Err(Ground::LineEmpty.at(line as usize));
-    };
-    Ok(root)
-}
+    fn line(&self, line: LineNumber) -> Line
+        ensures { result ≡ slice_index_or self.now.lines line.number None }
+    {
+        self.lines[line.number as usize]
+    }
 
-// A line that is still empty.
-pub(crate) fn check_vacant(header: &Header, line: u8) -> Result<(), Fault>
-    requires { line < 32 }
-    ensures { MatchResult result (λ _. slice_index_or header.now.lines line None ≡ None) (λ f. ((b : Branch) × (slice_index_or header.now.lines line None ≡ Some b)) × (f ≡ at LineTaken line)) }
-{
-    let line_at = header.lines[line as usize];
-    let None = line_at else {
-        return Err(Ground::LineTaken.at(line as usize));
-    };
-    Ok(())
+    // The root of a held line; an empty one stops the call.
+    pub(crate) fn root(&self, line: LineNumber) -> Result<Branch, Fault>
+        ensures { MatchResult result (λ root. slice_index_or self.now.lines line.number None ≡ Some root) (λ f. (slice_index_or self.now.lines line.number None ≡ None) × (f ≡ at LineEmpty line.number)) }
+    {
+        self.line(line)
+            .ok_or(Ground::LineEmpty.at(line.number as usize))
+    }
+
+    // A line that is still empty.
+    pub(crate) fn check_vacant(&self, line: LineNumber) -> Result<(), Fault>
+        ensures { MatchResult result (λ _. slice_index_or self.now.lines line.number None ≡ None) (λ f. ((b : Branch) × (slice_index_or self.now.lines line.number None ≡ Some b)) × (f ≡ at LineTaken line.number)) }
+    {
+        match self.line(line) {
+            None => Ok(()),
+            Some(_) => Err(Ground::LineTaken.at(line.number as usize)),
+        }
+    }
 }

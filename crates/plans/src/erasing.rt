@@ -2,7 +2,6 @@ ghost use Rattle.std.specs.Prelude.{length};
 ghost use Rattle.plans.specs.Holding.{Did};
 ghost use Rattle.plans.specs.Plain.{erase};
 
-use crate::checks::{check_held, root_of};
 use crate::open::OpenPlan;
 use faults::fault::Fault;
 use model::Node;
@@ -13,8 +12,8 @@ impl OpenPlan {
     pub fn erase(&mut self, nodes: &[Node], work: &mut [u32], line: u8) -> Result<(), Fault>
         ensures { Did self.old.header nodes.now (erase line (length nodes.now) (length work.old)) result self.new.header nodes.now }
     {
-        check_held(&self.header, line, nodes.len(), work.len())?;
-        root_of(&self.header, line)?;
+        let line = self.header.check_held(line, nodes.len(), work.len())?;
+        self.header.root(line)?;
         self.header.put(line, None, nodes, work);
         Ok(())
     }

@@ -4,20 +4,14 @@ ghost use Rattle.plans.specs.Orders.{misplaced_below};
 
 use tables::line::Line;
 
-// The number of nodes that are reached from the held lines.
-#[derive(Clone, Copy)]
-pub struct Usage {
-    pub used: u16,
-}
-
-// A plan without its node table: an order of pins, 32 lines, the length of the table, and the used number.
+// A plan without its node table: an order of pins, 32 lines, the length of the table, and the number of nodes that are reached from the held lines.
 #[derive(Clone, Copy)]
 pub struct Header {
     pub(crate) order: [u8; 20],
     pub(crate) pins: u8,
     pub(crate) lines: [Line; 32],
     pub(crate) size: usize,
-    pub(crate) usage: Usage,
+    pub(crate) used: u16,
     ghost some: { 1 ≤ pins },
     ghost few: { pins ≤ 20 },
     ghost room: { length order ≡ 20 },

@@ -3,7 +3,6 @@ ghost use Rattle.std.specs.Prelude.{◌≡◌, length};
 ghost use Rattle.plans.specs.Holding.{Reads};
 ghost use Rattle.plans.specs.Listing.{Lists};
 
-use crate::checks::check_tables;
 use crate::header::Header;
 use crate::issued::IssuedPlan;
 use crate::open::OpenPlan;
@@ -20,7 +19,7 @@ impl Header {
     ) -> Result<usize, Fault>
         ensures { Lists self.now nodes.now (length work.old) buffer.old result buffer.new }
     {
-        check_tables(self, nodes.len(), work.len())?;
+        self.check_tables(nodes.len(), work.len())?;
         let lines = self.lines;
         list_lines(nodes, work, self.order(), &lines, buffer)
     }

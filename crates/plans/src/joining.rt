@@ -1,4 +1,4 @@
-ghost use Rattle.std.specs.Prelude.{◌≡◌, ℕ, ◌≤◌, Bool, length};
+ghost use Rattle.std.specs.Prelude.{◌≡◌, ℕ, ◌≤◌, Bool, length, IfOk};
 ghost use Rattle.growths.specs.Codes.{code_join, decodes};
 ghost use Rattle.growths.specs.Growths.{Grows};
 ghost use Rattle.model.specs.Diagrams.{listed, tree};
@@ -6,11 +6,11 @@ ghost use Rattle.model.specs.Joins.{join as join_trees};
 ghost use Rattle.model.specs.Lists.{In, held};
 ghost use Rattle.plans.specs.Decoding.{Checks};
 ghost use Rattle.plans.specs.Holding.{Did};
-ghost use Rattle.plans.specs.Plain.{join, input_refusal};
+ghost use Rattle.plans.specs.Plain.{join, join_refusal};
 ghost use Rattle.plans.specs.Results.{refusal};
 
-use crate::checks::{check_line, check_tables, check_vacant, root_of};
 use crate::header::Header;
+use crate::line_number::LineNumber;
 use crate::open::OpenPlan;
 use ends::end::End;
 use ends::joining::Joining;
@@ -19,49 +19,60 @@ use growths::codes::codes_pass;
 use growths::roots::join_roots;
 use model::{Branch, Node};
 
-// What a join asks of its arguments.
-fn check_join(header: &Header, a: u8, b: u8, d: u8, nodes: usize, work: usize) -> Result<(), Fault>
-    ensures { (decoding : ℕ → Bool) (g : ℕ → ℕ → ℕ) → refusal result ≡ input_refusal header.now.pins header.now.size (join decoding g a b d nodes work) }
-{
-    check_line(a)?;
-    check_line(b)?;
-    check_line(d)?;
-    check_tables(header, nodes, work)
-}
-
-// Whether each code on a line decodes in the joining's kind.
-fn check_codes<E: End>(
-    header: &Header,
-    line: u8,
-    root: Branch,
-    nodes: &[Node],
-    work: &mut [u32],
-) -> Result<(), Fault>
-    requires { length nodes.now ≤ length work.old }
-    ensures { Checks (decodes E.End.decoded) header.now.pins nodes.now root line result }
-{
-    let len = nodes.len();
-    let (marks, _) = work.split_at_mut(len);
-    if codes_pass::<E>(nodes, marks, header.pins, root) {
-        Ok(())
-    } else {
-        Err(Ground::Undecoded.at(line as usize))
+impl Header {
+    // What a join asks of its arguments.
+    fn check_join(
+        &self,
+        a: u8,
+        b: u8,
+        d: u8,
+        nodes: usize,
+        work: usize,
+    ) -> Result<(LineNumber, LineNumber, LineNumber), Fault>
+        ensures told { refusal result ≡ join_refusal self.now.pins self.now.size a b d nodes work }
+        ensures same { IfOk result (λ ats. (ats.0.number ≡ a) × (ats.1.number ≡ b) × (ats.2.number ≡ d)) }
+    {
+        let a = LineNumber::new(a)?;
+        let b = LineNumber::new(b)?;
+        let d = LineNumber::new(d)?;
+        self.check_tables(nodes, work)?;
+        Ok((a, b, d))
     }
-}
 
-// A root for what a joining makes of two roots, beside the lines of a plan. None where no slot is left.
-fn grow_join<J: Joining>(
-    header: &Header,
-    joining: &J,
-    left: Branch,
-    right: Branch,
-    nodes: &mut [Node],
-    work: &mut [u32],
-) -> Option<Branch>
-    ensures { In left (held header.now.lines) → In right (held header.now.lines) → Grows header.now.pins nodes.old work.old header.now.lines (join_trees (code_join J.Of.End.decoded J.Of.End.code J.Joining.joined) (tree (listed nodes.old) header.now.pins 0 left) (tree (listed nodes.old) header.now.pins 0 right)) nodes.new result }
-{
-    let lines = header.lines;
-    join_roots(joining, nodes, work, header.pins, &lines, left, right)
+    // Whether each code on a line decodes in the joining's kind.
+    fn check_codes<E: End>(
+        &self,
+        line: LineNumber,
+        root: Branch,
+        nodes: &[Node],
+        work: &mut [u32],
+    ) -> Result<(), Fault>
+        requires { length nodes.now ≤ length work.old }
+        ensures { Checks (decodes E.End.decoded) self.now.pins nodes.now root line.number result }
+    {
+        let len = nodes.len();
+        let (marks, _) = work.split_at_mut(len);
+        if codes_pass::<E>(nodes, marks, self.pins, root) {
+            Ok(())
+        } else {
+            Err(Ground::Undecoded.at(line.number as usize))
+        }
+    }
+
+    // A root for what a joining makes of two roots, beside the lines of the plan. None where no slot is left.
+    fn grow_join<J: Joining>(
+        &self,
+        joining: &J,
+        left: Branch,
+        right: Branch,
+        nodes: &mut [Node],
+        work: &mut [u32],
+    ) -> Option<Branch>
+        ensures { In left (held self.now.lines) → In right (held self.now.lines) → Grows self.now.pins nodes.old work.old self.now.lines (join_trees (code_join J.Of.End.decoded J.Of.End.code J.Joining.joined) (tree (listed nodes.old) self.now.pins 0 left) (tree (listed nodes.old) self.now.pins 0 right)) nodes.new result }
+    {
+        let lines = self.lines;
+        join_roots(joining, nodes, work, self.pins, &lines, left, right)
+    }
 }
 
 impl OpenPlan {
@@ -77,13 +88,13 @@ impl OpenPlan {
     ) -> Result<(), Fault>
         ensures { Did self.old.header nodes.old (join (decodes J.Of.End.decoded) (code_join J.Of.End.decoded J.Of.End.code J.Joining.joined) a b d (length nodes.old) (length work.old)) result self.new.header nodes.new }
     {
-        check_join(&self.header, a, b, d, nodes.len(), work.len())?;
-        let left = root_of(&self.header, a)?;
-        let right = root_of(&self.header, b)?;
-        check_vacant(&self.header, d)?;
-        check_codes::<J::Of>(&self.header, a, left, nodes, work)?;
-        check_codes::<J::Of>(&self.header, b, right, nodes, work)?;
-        let grown = grow_join(&self.header, joining, left, right, nodes, work);
+        let (a, b, d) = self.header.check_join(a, b, d, nodes.len(), work.len())?;
+        let left = self.header.root(a)?;
+        let right = self.header.root(b)?;
+        self.header.check_vacant(d)?;
+        self.header.check_codes::<J::Of>(a, left, nodes, work)?;
+        self.header.check_codes::<J::Of>(b, right, nodes, work)?;
+        let grown = self.header.grow_join(joining, left, right, nodes, work);
         self.header.settle(d, grown, nodes, work)
     }
 }

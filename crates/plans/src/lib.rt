@@ -9,6 +9,7 @@ pub mod issued;
 pub mod issuing;
 pub mod joining;
 pub mod laws;
+mod line_number;
 pub mod making;
 pub mod open;
 mod order;

@@ -7,27 +7,19 @@ use Rattle.plans.proofs.header.Header.read.Goals as goal
 
 pub returns-in_err-root : goal.returns-in_err-root
 returns-in_err-root c =
-    let h = c.args.self.now in
-    let nodes = c.args.nodes.now in
-    let d = c.args.line in
-    let a = c.args.address in
-    let clear = c.in_ok-check_read.ensures in
-    let e = c.in_err-root.ensures in
+    let clear = c.in_ok-line.ensures.told in
+    let e = rw c.in_ok-line.ensures.same at c.in_err-root.ensures in
     let q = err_from_is_err_and c.from_residual-in_err-root.result c.from_residual-in_err-root.ensures.1 in
     rw (q.1, q.2) (record {
-      turned = λ p heads f t. not_turned h p heads (λ n size. read_refusal n size d a (length nodes)) clear f t;
-      tells = λ p o. read_empty h nodes p o d a (length nodes) clear _ e.0 e.1;
+      turned = λ p heads f t. not_turned _ p heads (λ n size. read_refusal n size c.args.line c.args.address (length c.args.nodes.now)) clear f t;
+      tells = λ p o. read_empty _ _ p o _ _ _ clear _ e.0 e.1;
     })
 
 pub returns : goal.returns
 returns c =
-    let h = c.args.self.now in
-    let nodes = c.args.nodes.now in
-    let d = c.args.line in
-    let a = c.args.address in
-    let clear = c.in_ok-check_read.ensures in
+    let clear = c.in_ok-line.ensures.told in
+    let root = rw c.in_ok-line.ensures.same at c.in_ok-root.ensures in
     record {
-      turned = λ p heads f t. not_turned h p heads (λ n size. read_refusal n size d a (length nodes)) clear f t;
-      tells = λ p o. read_held h nodes p o d a (length nodes) clear c.in_ok-root.root _ c.in_ok-root.ensures
-          (read_order h nodes c.in_ok-root.root a c.order.result.now c.read.result c.order.ensures c.read.ensures);
+      turned = λ p heads f t. not_turned _ p heads (λ n size. read_refusal n size c.args.line c.args.address (length c.args.nodes.now)) clear f t;
+      tells = λ p o. read_held _ _ p o _ _ _ clear _ _ root (read_order c.args.self.now _ _ _ c.order.result.now _ c.order.ensures c.read.ensures);
     }

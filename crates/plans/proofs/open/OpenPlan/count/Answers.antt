@@ -7,26 +7,19 @@ use Rattle.plans.proofs.open.OpenPlan.count.Goals as goal
 
 pub returns-in_err-root : goal.returns-in_err-root
 returns-in_err-root c =
-    let h = c.args.self.now.header in
-    let nodes = c.args.nodes.now in
-    let d = c.args.line in
-    let work = length c.args.work.now in
-    let clear = c.in_ok-check_held.ensures in
-    let e = c.in_err-root.ensures in
+    let clear = c.in_ok-line.ensures.told in
+    let e = rw c.in_ok-line.ensures.same at c.in_err-root.ensures in
     let q = err_from_is_err_and c.from_residual-in_err-root.result c.from_residual-in_err-root.ensures.1 in
     rw (q.1, q.2) (record {
-      turned = λ p heads f t. not_turned h p heads (λ n size. count_refusal n size d (length nodes) work) clear f t;
-      tells = λ p o. count_empty h nodes p o d (length nodes) work clear _ e.0 e.1;
+      turned = λ p heads f t. not_turned _ p heads (λ n size. count_refusal n size c.args.line (length c.args.nodes.now) (length c.args.work.now)) clear f t;
+      tells = λ p o. count_empty _ _ p o _ _ _ clear _ e.0 e.1;
     })
 
 pub returns : goal.returns
 returns c =
-    let h = c.args.self.now.header in
-    let nodes = c.args.nodes.now in
-    let d = c.args.line in
-    let work = length c.args.work.now in
-    let clear = c.in_ok-check_held.ensures in
+    let clear = c.in_ok-line.ensures.told in
+    let root = rw c.in_ok-line.ensures.same at c.in_ok-root.ensures in
     record {
-      turned = λ p heads f t. not_turned h p heads (λ n size. count_refusal n size d (length nodes) work) clear f t;
-      tells = λ p o. count_held h nodes p o d (length nodes) work clear c.in_ok-root.root c.reached_count.result c.in_ok-root.ensures c.reached_count.ensures;
+      turned = λ p heads f t. not_turned _ p heads (λ n size. count_refusal n size c.args.line (length c.args.nodes.now) (length c.args.work.now)) clear f t;
+      tells = λ p o. count_held _ _ p o _ _ _ clear _ _ root c.reached_count.ensures;
     }
