@@ -6,6 +6,7 @@ ghost use Rattle.plans.specs.Reaching.{ReachesMany};
 use crate::header::Header;
 use crate::line_number::LineNumber;
 use crate::open::OpenPlan;
+use crate::plan::Plan;
 use faults::fault::Fault;
 use model::Node;
 use tables::line::Line;
@@ -40,14 +41,16 @@ impl Header {
     }
 }
 
-impl OpenPlan {
+impl<S> Plan<S> {
     // The code of a line at an address.
     pub fn read(&self, nodes: &[Node], line: u8, address: u32) -> Result<u16, Fault>
         ensures { Reads self.now.header nodes.now line address result }
     {
         self.header.read(nodes, line, address)
     }
+}
 
+impl OpenPlan {
     // Whether two held lines have one selection.
     pub fn same(&self, a: u8, b: u8) -> Result<bool, Fault>
         ensures { Compares self.now.header a b result }

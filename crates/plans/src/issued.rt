@@ -1,7 +1,7 @@
-use crate::header::Header;
+use crate::plan::Plan;
+
+#[derive(Clone, Copy)]
+pub struct Issued;
 
 // A plan that can be listed.
-#[derive(Drop)]
-pub struct IssuedPlan {
-    pub(crate) header: Header,
-}
+pub type IssuedPlan = Plan<Issued>;

@@ -1,6 +1,5 @@
 // The steps between an open and an issued plan, and the calls on the issued one.
 ghost use Rattle.std.specs.Prelude.{◌≡◌, length};
-ghost use Rattle.plans.specs.Holding.{Reads};
 ghost use Rattle.plans.specs.Listing.{Lists};
 
 use crate::header::Header;
@@ -30,8 +29,7 @@ impl OpenPlan {
     pub fn issue(self) -> IssuedPlan
         ensures { result.header ≡ self.header }
     {
-        let OpenPlan { header } = self;
-        IssuedPlan { header }
+        IssuedPlan::over(self.header)
     }
 }
 
@@ -40,15 +38,7 @@ impl IssuedPlan {
     pub fn reopen(self) -> OpenPlan
         ensures { result.header ≡ self.header }
     {
-        let IssuedPlan { header } = self;
-        OpenPlan { header }
-    }
-
-    // The code of a line at an address.
-    pub fn read(&self, nodes: &[Node], line: u8, address: u32) -> Result<u16, Fault>
-        ensures { Reads self.now.header nodes.now line address result }
-    {
-        self.header.read(nodes, line, address)
+        OpenPlan::over(self.header)
     }
 
     // Writes the listing of the plan at the front of a buffer, and tells its length.

@@ -13,5 +13,6 @@ mod line_number;
 pub mod making;
 pub mod open;
 mod order;
+pub mod plan;
 mod settling;
 pub mod strapping;

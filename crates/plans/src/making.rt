@@ -30,6 +30,6 @@ impl OpenPlan {
             size,
             used: 0,
         };
-        Ok(OpenPlan { header })
+        Ok(OpenPlan::over(header))
     }
 }

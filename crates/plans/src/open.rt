@@ -1,7 +1,7 @@
-use crate::header::Header;
+use crate::plan::Plan;
+
+#[derive(Clone, Copy)]
+pub struct Open;
 
 // A plan that can be drawn on.
-#[derive(Drop)]
-pub struct OpenPlan {
-    pub(crate) header: Header,
-}
+pub type OpenPlan = Plan<Open>;

@@ -1,9 +1,9 @@
-use Rattle.std.proofs.Common.{ℕ, length, refl, subst, arith}
+use Rattle.std.proofs.Common.{ℕ, length, refl, subst}
 use Rattle.std.proofs.lemmas.Result.{err_from_is_err_and}
 use Rattle.trees.specs.Mixed.{codes}
 use Rattle.trees.specs.Records.{Built}
-use Rattle.plans.proofs.Drawings.{turned_draw, draw_taken, draw_tree_full, drawn, draw_pins, draw_tables}
-use Rattle.plans.proofs.open.OpenPlan.draw.Goals as goal
+use Rattle.plans.proofs.Drawings.{turned_draw, draw_taken, draw_tree_full, drawn, draw_pins}
+use Rattle.plans.proofs.drawing.OpenPlan.draw.Goals as goal
 
 pub returns-in_err-line : goal.returns-in_err-line
 returns-in_err-line g c =
@@ -24,14 +24,6 @@ returns-in_err-tree g c =
     let e = c.in_err-tree.ensures in
     let q = err_from_is_err_and c.from_residual-in_err-tree.result c.from_residual-in_err-tree.ensures.1 in
     rw (q.1, q.2) (draw_tree_full _ _ _ _ _ _ _ clear vacant _ e.told e.over)
-
-pub settle-requires : goal.settle-requires
-settle-requires g c =
-    let t = draw_tables c.args.self.now.header.pins c.args.self.now.header.size c.pins.result c.args.line (length c.args.nodes.now) (length c.args.work.now) c.in_ok-line.ensures.told in
-    let k = c.grow_tree-root.auto.nodes in
-    let l = c.grow_tree-root.auto.work in
-    let few = c.args.self.now.header.sized in
-    (omega arith, omega arith)
 
 pub returns : goal.returns
 returns g c =

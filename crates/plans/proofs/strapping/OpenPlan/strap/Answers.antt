@@ -1,13 +1,7 @@
-use Rattle.std.proofs.Common.{length, refl, arith}
+use Rattle.std.proofs.Common.{length, refl}
 use Rattle.std.proofs.lemmas.Result.{err_from_is_err_and}
-use Rattle.plans.proofs.Changing.{turned_did}
-use Rattle.plans.proofs.Strappings.{strap_tables, strap_empty, strap_taken, strapped_line}
-use Rattle.plans.proofs.open.OpenPlan.strap.Goals as goal
-
-pub returns-in_err-a : goal.returns-in_err-a
-returns-in_err-a c =
-    let q = err_from_is_err_and c.from_residual.result c.from_residual.ensures.1 in
-    rw (q.1, q.2) (turned_did _ _ _ _ c.in_err-a.ensures.told)
+use Rattle.plans.proofs.Strappings.{strap_empty, strap_taken, strapped_line}
+use Rattle.plans.proofs.strapping.OpenPlan.strap.Goals as goal
 
 pub returns-in_err-root : goal.returns-in_err-root
 returns-in_err-root c =
@@ -21,14 +15,6 @@ returns-in_err-check_vacant c =
     let e = rw c.in_ok-a.ensures.same.1 at c.in_err-check_vacant.ensures in
     let q = err_from_is_err_and c.from_residual-in_err-check_vacant.result c.from_residual-in_err-check_vacant.ensures.1 in
     rw (q.1, q.2) (strap_taken _ _ _ _ _ _ _ c.in_ok-a.ensures.told _ root e.0.0 _ e.0.1 e.1)
-
-pub settle-requires : goal.settle-requires
-settle-requires c =
-    let t = strap_tables c.args.self.now.header.pins c.args.self.now.header.size c.args.a c.args.pin c.args.d (length c.args.nodes.now) (length c.args.work.now) c.in_ok-a.ensures.told in
-    let k = c.grow_strap-grown.auto.nodes in
-    let l = c.grow_strap-grown.auto.work in
-    let few = c.args.self.now.header.sized in
-    (omega arith, omega arith)
 
 pub returns : goal.returns
 returns c =

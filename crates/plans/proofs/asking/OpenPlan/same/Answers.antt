@@ -1,7 +1,7 @@
 use Rattle.std.proofs.Common.{◌≡◌, Decides, rules}
 use Rattle.std.proofs.lemmas.Result.{err_from_is_err_and}
 use Rattle.plans.proofs.Comparings.{left_empty, right_empty, both_held}
-use Rattle.plans.proofs.open.OpenPlan.same.Goals as goal
+use Rattle.plans.proofs.asking.OpenPlan.same.Goals as goal
 
 pub returns-in_err-left : goal.returns-in_err-left
 returns-in_err-left c =

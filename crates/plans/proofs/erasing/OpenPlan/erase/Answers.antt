@@ -1,7 +1,7 @@
 use Rattle.std.proofs.Common.{length}
 use Rattle.std.proofs.lemmas.Result.{err_from_is_err_and}
 use Rattle.plans.proofs.Erasings.{erase_empty, erase_held}
-use Rattle.plans.proofs.open.OpenPlan.erase.Goals as goal
+use Rattle.plans.proofs.erasing.OpenPlan.erase.Goals as goal
 
 pub returns-in_err-root : goal.returns-in_err-root
 returns-in_err-root c =

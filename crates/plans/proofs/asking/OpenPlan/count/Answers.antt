@@ -3,7 +3,7 @@ use Rattle.std.proofs.lemmas.Result.{err_from_is_err_and}
 use Rattle.plans.specs.Plain.{count_refusal}
 use Rattle.plans.proofs.Holdings.{not_turned}
 use Rattle.plans.proofs.Reckonings.{count_empty, count_held}
-use Rattle.plans.proofs.open.OpenPlan.count.Goals as goal
+use Rattle.plans.proofs.asking.OpenPlan.count.Goals as goal
 
 pub returns-in_err-root : goal.returns-in_err-root
 returns-in_err-root c =

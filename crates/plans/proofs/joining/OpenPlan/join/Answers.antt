@@ -1,13 +1,7 @@
 use Rattle.std.proofs.Common.{length, arith}
 use Rattle.std.proofs.lemmas.Result.{err_from_is_err_and}
-use Rattle.plans.proofs.Changing.{turned_did}
-use Rattle.plans.proofs.Joinings.{join_tables, join_empty_left, join_empty_right, join_taken, join_undecoded_left, join_undecoded_right, joined_line}
-use Rattle.plans.proofs.open.OpenPlan.join.Goals as goal
-
-pub returns-in_err-a : goal.returns-in_err-a
-returns-in_err-a g c =
-    let q = err_from_is_err_and c.from_residual.result c.from_residual.ensures.1 in
-    rw (q.1, q.2) (turned_did _ _ _ _ c.in_err-a.ensures.told)
+use Rattle.plans.proofs.Joinings.{join_empty_left, join_empty_right, join_taken, join_undecoded_left, join_undecoded_right, joined_line}
+use Rattle.plans.proofs.joining.OpenPlan.join.Goals as goal
 
 pub returns-in_err-left : goal.returns-in_err-left
 returns-in_err-left g c =
@@ -30,11 +24,6 @@ returns-in_err-check_vacant g c =
     let q = err_from_is_err_and c.from_residual-in_err-check_vacant.result c.from_residual-in_err-check_vacant.ensures.1 in
     rw (q.1, q.2) (join_taken _ _ _ _ _ _ _ _ c.in_ok-a.ensures.told _ left _ right e.0.0 _ e.0.1 e.1)
 
-pub check_codes-requires : goal.check_codes-requires
-check_codes-requires g c =
-    let t = join_tables c.args.self.now.header.pins c.args.self.now.header.size c.args.a c.args.b c.args.d (length c.args.nodes.now) (length c.args.work.now) c.in_ok-a.ensures.told in
-    omega arith
-
 pub returns-in_err-check_codes : goal.returns-in_err-check_codes
 returns-in_err-check_codes g c =
     let left = rw c.in_ok-a.ensures.same.0 at c.in_ok-left.ensures in
@@ -43,12 +32,6 @@ returns-in_err-check_codes g c =
     let told = rw c.in_ok-a.ensures.same.0 at c.in_err-check_codes.ensures in
     let q = err_from_is_err_and c.from_residual-in_err-check_codes.result c.from_residual-in_err-check_codes.ensures.1 in
     rw (q.1, q.2) (join_undecoded_left _ _ _ _ _ _ _ _ c.in_ok-a.ensures.told _ left _ right vacant _ told)
-
-pub check_codes-requires-2 : goal.check_codes-requires-2
-check_codes-requires-2 g c =
-    let t = join_tables c.args.self.now.header.pins c.args.self.now.header.size c.args.a c.args.b c.args.d (length c.args.nodes.now) (length c.args.work.now) c.in_ok-a.ensures.told in
-    let k = c.check_codes.auto.work in
-    omega arith
 
 pub returns-in_err-check_codes-2 : goal.returns-in_err-check_codes-2
 returns-in_err-check_codes-2 g c =
@@ -59,16 +42,6 @@ returns-in_err-check_codes-2 g c =
     let told = rw c.in_ok-a.ensures.same.1 at c.in_err-check_codes-2.ensures in
     let q = err_from_is_err_and c.from_residual-in_err-check_codes-2.result c.from_residual-in_err-check_codes-2.ensures.1 in
     rw (q.1, q.2) (join_undecoded_right _ _ _ _ _ _ _ _ c.in_ok-a.ensures.told _ left _ right vacant tt passed _ told)
-
-pub settle-requires : goal.settle-requires
-settle-requires g c =
-    let t = join_tables c.args.self.now.header.pins c.args.self.now.header.size c.args.a c.args.b c.args.d (length c.args.nodes.now) (length c.args.work.now) c.in_ok-a.ensures.told in
-    let i = c.check_codes.auto.work in
-    let j = c.check_codes-2.auto.work in
-    let k = c.grow_join-grown.auto.nodes in
-    let l = c.grow_join-grown.auto.work in
-    let few = c.args.self.now.header.sized in
-    (omega arith, omega arith)
 
 pub returns : goal.returns
 returns g c =
