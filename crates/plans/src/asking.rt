@@ -1,27 +1,14 @@
 // The calls that alter nothing.
-ghost use Rattle.std.specs.Prelude.{◌≡◌, ◌≤◌, length};
+ghost use Rattle.std.specs.Prelude.{◌≡◌, length};
 ghost use Rattle.plans.specs.Holding.{order_of, Reads, Counts, Compares, Uses};
-ghost use Rattle.plans.specs.Reaching.{ReachesMany};
 
 use crate::header::Header;
 use crate::line_number::LineNumber;
+use crate::marking::{Marking, reached_count};
 use crate::open::OpenPlan;
 use crate::plan::Plan;
 use faults::fault::Fault;
 use model::Node;
-use tables::line::Line;
-use tables::marking::{count_marks, mark_roots};
-
-// How many nodes are reached from some lines.
-pub(crate) fn reached_count(nodes: &[Node], work: &mut [u32], pins: u8, lines: &[Line]) -> u16
-    requires { (length nodes.now ≤ 4096) × (length nodes.now ≤ length work.old) }
-    ensures { ReachesMany pins nodes.now lines.now result }
-{
-    let len = nodes.len();
-    let (marks, _) = work.split_at_mut(len);
-    mark_roots(nodes, marks, pins, lines);
-    count_marks(marks) as u16
-}
 
 impl Header {
     // The pins, in their order.
@@ -75,6 +62,11 @@ impl OpenPlan {
     {
         let line = self.header.check_held(line, nodes.len(), work.len())?;
         let root = self.header.root(line)?;
-        Ok(reached_count(nodes, work, self.header.pins, &[Some(root)]))
+        let marks = &mut work[..nodes.len()];
+        Ok(reached_count(
+            &mut Marking { nodes, marks },
+            self.header.pins,
+            &[Some(root)],
+        ))
     }
 }

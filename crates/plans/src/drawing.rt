@@ -9,6 +9,7 @@ ghost use Rattle.trees.specs.Records.{Built};
 
 use crate::header::Header;
 use crate::line_number::LineNumber;
+use crate::marking::Marking;
 use crate::open::OpenPlan;
 use drawings::drawing::draw_root;
 use ends::end::End;
@@ -69,6 +70,8 @@ impl OpenPlan {
         self.header.check_vacant(line)?;
         let tree = build(source, records)?;
         let root = self.header.grow_tree(tree, records, nodes, work);
-        self.header.settle(line, root, nodes, work)
+        let marks = &mut work[..nodes.len()];
+        self.header
+            .settle(line, root, &mut Marking { nodes, marks })
     }
 }

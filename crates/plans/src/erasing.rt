@@ -2,6 +2,7 @@ ghost use Rattle.std.specs.Prelude.{length};
 ghost use Rattle.plans.specs.Holding.{Did};
 ghost use Rattle.plans.specs.Plain.{erase};
 
+use crate::marking::Marking;
 use crate::open::OpenPlan;
 use faults::fault::Fault;
 use model::Node;
@@ -14,7 +15,8 @@ impl OpenPlan {
     {
         let line = self.header.check_held(line, nodes.len(), work.len())?;
         self.header.root(line)?;
-        self.header.put(line, None, nodes, work);
+        let marks = &mut work[..nodes.len()];
+        self.header.put(line, None, &mut Marking { nodes, marks });
         Ok(())
     }
 }

@@ -11,6 +11,7 @@ ghost use Rattle.plans.specs.Results.{refusal};
 
 use crate::header::Header;
 use crate::line_number::LineNumber;
+use crate::marking::Marking;
 use crate::open::OpenPlan;
 use ends::end::End;
 use ends::joining::Joining;
@@ -40,6 +41,7 @@ impl Header {
     }
 
     // Whether each code on a line decodes in the joining's kind.
+    // No `Marking` is taken: in `join` two of them, one after the other, are a reference at an intersection of lifetimes.
     fn check_codes<E: End>(
         &self,
         line: LineNumber,
@@ -50,8 +52,7 @@ impl Header {
         requires { length nodes.now ≤ length work.old }
         ensures { Checks (decodes E.End.decoded) self.now.pins nodes.now root line.number result }
     {
-        let len = nodes.len();
-        let (marks, _) = work.split_at_mut(len);
+        let marks = &mut work[..nodes.len()];
         if codes_pass::<E>(nodes, marks, self.pins, root) {
             Ok(())
         } else {
@@ -95,6 +96,7 @@ impl OpenPlan {
         self.header.check_codes::<J::Of>(a, left, nodes, work)?;
         self.header.check_codes::<J::Of>(b, right, nodes, work)?;
         let grown = self.header.grow_join(joining, left, right, nodes, work);
-        self.header.settle(d, grown, nodes, work)
+        let marks = &mut work[..nodes.len()];
+        self.header.settle(d, grown, &mut Marking { nodes, marks })
     }
 }

@@ -11,6 +11,7 @@ pub mod joining;
 pub mod laws;
 mod line_number;
 pub mod making;
+mod marking;
 pub mod open;
 mod order;
 pub mod plan;

@@ -10,6 +10,7 @@ ghost use Rattle.plans.specs.Results.{refusal};
 
 use crate::header::Header;
 use crate::line_number::LineNumber;
+use crate::marking::Marking;
 use crate::open::OpenPlan;
 use crate::order::place_of_pin;
 use faults::fault::{Fault, Ground};
@@ -72,6 +73,7 @@ impl OpenPlan {
         let root = self.header.root(a)?;
         self.header.check_vacant(d)?;
         let grown = self.header.grow_strap(root, pin, high, nodes, work);
-        self.header.settle(d, grown, nodes, work)
+        let marks = &mut work[..nodes.len()];
+        self.header.settle(d, grown, &mut Marking { nodes, marks })
     }
 }

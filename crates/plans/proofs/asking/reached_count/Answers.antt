@@ -1,6 +1,0 @@
-use Rattle.std.proofs.Common.{arith}
-use Rattle.plans.proofs.Reckonings.{filled_few}
-use Rattle.plans.proofs.asking.reached_count.Goals as goal
-
-pub overflow_cast-result : goal.overflow_cast-result
-overflow_cast-result c = omega (arith, c.count_marks.ensures.filled, filled_few c.mark_roots.new.marks, c.mark_roots.auto.marks, c.split_at_mut-marks.ensures.front_len)
