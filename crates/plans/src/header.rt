@@ -5,6 +5,7 @@ ghost use Rattle.plans.specs.Orders.{misplaced_below};
 use tables::line::Line;
 
 // A plan without its node table: an order of pins, 32 lines, the length of the table, and the number of nodes that are reached from the held lines.
+// The order is an array with the number of its pins, since a plan has no heap.
 #[derive(Clone, Copy)]
 pub struct Header {
     pub(crate) order: [u8; 20],
