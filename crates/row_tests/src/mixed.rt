@@ -9,15 +9,15 @@ use readers::bit_file::BitFile;
 use rows::after::after_row;
 use rows::calls::{Draw, Erase, Join, Strap};
 use rows::hand::Hand;
-use rows::row::{Row, Then};
+use rows::row::Row;
 use std::test::Fail;
 use trees::tree::Record;
 
 // Two lines that are drawn, one of them twice, then two joins, then a strap.
-type FourLines<'a> = Then<
+type FourLines<'a> = (
     (Draw<&'a BitFile<'a>>, (Draw<Dawn>, Draw<Dawn>)),
-    Then<(Join<Brighter>, Join<Both>), Strap>,
->;
+    ((Join<Brighter>, Join<Both>), Strap),
+);
 
 // What is told after a row: the used number, and the counts of the first lines.
 #[derive(Clone, Copy, PartialEq, Eq, Debug)]
@@ -65,19 +65,19 @@ fn cut_short() -> (Erase, (Draw<Dawn>, Draw<Dawn>)) {
 // Bits 0 1 1 0 on line 0, lamps 0 0 1 2 on line 1, the brighter of both on line 2, and line 1 with pin 0 high on line 3.
 // The second draw on line 1 is refused, and so is a join of bits where a line has code 2.
 fn four_lines<'a>(bits: &'a BitFile<'a>) -> FourLines<'a> {
-    Then {
-        first: (draw(bits, 0), (draw(Dawn, 1), draw(Dawn, 1))),
-        next: Then {
-            first: (join(Brighter, 0, 1, 2), join(Both, 0, 1, 3)),
-            next: Strap {
+    (
+        (draw(bits, 0), (draw(Dawn, 1), draw(Dawn, 1))),
+        (
+            (join(Brighter, 0, 1, 2), join(Both, 0, 1, 3)),
+            Strap {
                 from: 1,
                 pin: 0,
                 high: true,
                 line: 3,
                 hand: Hand::all(),
             },
-        },
-    }
+        ),
+    )
 }
 
 #[test]

@@ -8,7 +8,6 @@ use model::Node;
 use rows::after::after_row;
 use rows::calls::{Draw, Erase, Join, Strap};
 use rows::hand::Hand;
-use rows::row::Then;
 use trees::tree::Record;
 
 const WHOLE: Hand = Hand {
@@ -21,39 +20,30 @@ const WHOLE: Hand = Hand {
 pub fn lamps_settle() -> Result<u16, Fault>
     ensures { result ≡ Ok 2 }
 {
-    let row = Then {
-        first: Then {
-            first: Draw {
-                source: Dawn,
-                line: 0,
-                hand: WHOLE,
-            },
-            next: Strap {
-                from: 0,
-                pin: 0,
-                high: true,
-                line: 1,
-                hand: WHOLE,
-            },
-        },
-        next: Then {
-            first: Erase {
-                line: 0,
-                hand: Hand {
-                    nodes: 7,
-                    records: 4,
-                    work: 120,
-                },
-            },
-            next: Join {
-                joining: Brighter,
-                left: 0,
-                right: 1,
-                line: 1,
-                hand: WHOLE,
-            },
-        },
+    let draw = Draw {
+        source: Dawn,
+        line: 0,
+        hand: WHOLE,
     };
+    let strap = Strap {
+        from: 0,
+        pin: 0,
+        high: true,
+        line: 1,
+        hand: WHOLE,
+    };
+    let erase = Erase {
+        line: 0,
+        hand: Hand { nodes: 7, ..WHOLE },
+    };
+    let join = Join {
+        joining: Brighter,
+        left: 0,
+        right: 1,
+        line: 1,
+        hand: WHOLE,
+    };
+    let row = ((draw, strap), (erase, join));
     let outcome = after_row(
         &row,
         &[0, 1],

@@ -1,5 +1,5 @@
 -- Rows of calls: the plain plan fed a row, and the tables that a row is lent.
-use Rattle.std.specs.Prelude.{ℕ, min, List, [], ◌∷◌}
+use Rattle.std.specs.Prelude.{ℕ, min, List, [], ◌∷◌, length}
 use Rattle.model.specs.declared.Node.{Node}
 use Rattle.plans.specs.declared.header.Header.{Header}
 use Rattle.plans.specs.Plain.{Plain, Call, after}
@@ -14,6 +14,10 @@ pub record Lent : Type 0 where
 
 abbrev pub lent : (nodes records work : ℕ) → Lent
 lent k m w = record { nodes = k; records = m; work = w }
+
+-- whole tables
+abbrev pub whole : {A B C : Type 0} → List A → List B → List C → Lent
+whole nodes records work = lent (length nodes) (length records) (length work)
 
 -- what a hand gives of them: of each table at most so many from the front
 abbrev pub handed : Hand → Lent → Lent

@@ -3,13 +3,14 @@ ghost use Rattle.std.specs.Prelude.{◌≡◌, ℕ, ◌<◌, length, None, slice
 ghost use Rattle.plans.specs.Holding.{Holds};
 ghost use Rattle.plans.specs.Plain.{Plain};
 ghost use Rattle.rows.specs.Laws.{plain_after, AfterMaking, count_if_told, Priced};
-ghost use Rattle.rows.specs.Rows.{lent};
+ghost use Rattle.rows.specs.Rows.{whole};
 
 use crate::outcome::Outcome;
 use crate::row::Row;
 use faults::fault::Fault;
 use model::Node;
 use plans::open::OpenPlan;
+use std::array;
 use trees::tree::Record;
 
 // A new plan on which a row was run.
@@ -20,7 +21,7 @@ pub fn plan_after<R: Row>(
     records: &mut [Record],
     work: &mut [u32],
 ) -> Result<OpenPlan, Fault>
-    ensures { AfterMaking order.now (lent (length nodes.old) (length records.old) (length work.old)) result (λ plan. Holds plan.header nodes.new (plain_after order.now (lent (length nodes.old) (length records.old) (length work.old)) (R.Row.calls row.now))) }
+    ensures { AfterMaking order.now (whole nodes.old records.old work.old) result (λ plan. Holds plan.header nodes.new (plain_after order.now (whole nodes.old records.old work.old) (R.Row.calls row.now))) }
 {
     let mut plan = OpenPlan::new(order, nodes)?;
     row.run(&mut plan, nodes, records, work);
@@ -37,11 +38,7 @@ fn count_of(plan: &OpenPlan, nodes: &[Node], work: &mut [u32], line: u8) -> Opti
 fn counts_of(plan: &OpenPlan, nodes: &[Node], work: &mut [u32]) -> [Option<u16>; 32]
     ensures { (p : Plain) → Holds plan.now.header nodes.now p → (d : ℕ) → d < 32 → slice_index_or result d None ≡ count_if_told p d (length nodes.now) (length work.old) }
 {
-    let mut counts = [None; 32];
-    for line in 0..32 {
-        counts[line as usize] = count_of(plan, nodes, work, line);
-    }
-    counts
+    array::from_fn(|line| count_of(plan, nodes, work, line as u8))
 }
 
 // A plan with its used number and its counts.
@@ -61,7 +58,7 @@ pub fn after_row<R: Row>(
     records: &mut [Record],
     work: &mut [u32],
 ) -> Result<Outcome, Fault>
-    ensures { AfterMaking order.now (lent (length nodes.old) (length records.old) (length work.old)) result (Priced (plain_after order.now (lent (length nodes.old) (length records.old) (length work.old)) (R.Row.calls row.now)) nodes.new (length work.old)) }
+    ensures { AfterMaking order.now (whole nodes.old records.old work.old) result (Priced (plain_after order.now (whole nodes.old records.old work.old) (R.Row.calls row.now)) nodes.new (length work.old)) }
 {
     let plan = plan_after(row, order, nodes, records, work)?;
     Ok(price(plan, nodes, work))

@@ -1,7 +1,7 @@
 // Listings of rows on new plans.
-ghost use Rattle.std.specs.Prelude.{◌≡◌, length, Decides};
+ghost use Rattle.std.specs.Prelude.{length};
 ghost use Rattle.rows.specs.Laws.{plain_after, ListingIsTheLayout, RowsCompared};
-ghost use Rattle.rows.specs.Rows.{lent};
+ghost use Rattle.rows.specs.Rows.{whole};
 
 use crate::after::plan_after;
 use crate::row::Row;
@@ -18,16 +18,10 @@ pub fn list_row<R: Row>(
     work: &mut [u32],
     buffer: &mut [u8],
 ) -> Result<usize, Fault>
-    ensures { ListingIsTheLayout order.now (lent (length nodes.old) (length records.old) (length work.old)) (plain_after order.now (lent (length nodes.old) (length records.old) (length work.old)) (R.Row.calls row.now)) buffer.old result buffer.new }
+    ensures { ListingIsTheLayout order.now (whole nodes.old records.old work.old) (plain_after order.now (whole nodes.old records.old work.old) (R.Row.calls row.now)) buffer.old result buffer.new }
 {
     let plan = plan_after(row, order, nodes, records, work)?;
     plan.issue().list(nodes, work, buffer)
-}
-
-fn are_same(listing: &[u8], other: &[u8]) -> bool
-    ensures { Decides result (listing.now ≡ other.now) }
-{
-    listing == other
 }
 
 // Whether two rows, each on a new plan of one order with tables of its own, list the same bytes.
@@ -44,7 +38,7 @@ pub fn lists_alike<A: Row, B: Row>(
     other_work: &mut [u32],
     other_buffer: &mut [u8],
 ) -> Result<bool, Fault>
-    ensures { RowsCompared order.now (lent (length nodes.old) (length records.old) (length work.old)) (lent (length other_nodes.old) (length other_records.old) (length other_work.old)) (plain_after order.now (lent (length nodes.old) (length records.old) (length work.old)) (A.Row.calls one.now)) (plain_after order.now (lent (length other_nodes.old) (length other_records.old) (length other_work.old)) (B.Row.calls two.now)) buffer.old other_buffer.old result buffer.new other_buffer.new }
+    ensures { RowsCompared order.now (whole nodes.old records.old work.old) (whole other_nodes.old other_records.old other_work.old) (plain_after order.now (whole nodes.old records.old work.old) (A.Row.calls one.now)) (plain_after order.now (whole other_nodes.old other_records.old other_work.old) (B.Row.calls two.now)) buffer.old other_buffer.old result buffer.new other_buffer.new }
 {
     let len = list_row(one, order, nodes, records, work, buffer)?;
     let other_len = list_row(
@@ -55,5 +49,5 @@ pub fn lists_alike<A: Row, B: Row>(
         other_work,
         other_buffer,
     )?;
-    Ok(are_same(&buffer[..len], &other_buffer[..other_len]))
+    Ok(&buffer[..len] == &other_buffer[..other_len])
 }

@@ -1,17 +1,12 @@
-use Rattle.std.proofs.Common.{length, refl, arith, length-set}
+use Rattle.std.proofs.Common.{◌≡◌, length, refl, None, rules, arith}
 use Rattle.rows.specs.Laws.{count_if_told}
-use Rattle.rows.proofs.Pricing.{counts_more}
+use Rattle.rows.proofs.Pricing.{each_call}
 use Rattle.rows.proofs.after.counts_of.Goals as goal
 
-pub loop-line-init : goal.loop-line-init
-loop-line-init c = (refl, λ p o d h. absurd (omega arith))
-
-pub loop-line-preserved : goal.loop-line-preserved
-loop-line-preserved c = (
-  simp length-set c.loop-line.invariant.0,
-  λ p o. counts_more (λ d w. count_if_told p d (length c.args.nodes.now) w) (length c.loop-line.work) (length c.args.work.now) c.loop-line.auto.work
-      c.loop-line.counts c.loop-line.line c.count_of.result c.loop-line.invariant.0 c.loop-line-test.true (c.count_of.ensures p o) (c.loop-line.invariant.1 p o),
-)
-
 pub returns : goal.returns
-returns c p o d h = c.loop-line.invariant.1 p o d (omega (arith, c.loop-line-test.false))
+returns c p o d h =
+    let plan = c.args.plan.now in
+    let nodes = c.args.nodes.now in
+    let work = length c.args.work.now in
+    each_call _ (λ s. (s.0.now ≡ plan) × (s.1.now ≡ nodes) × (length s.2.now ≡ work)) (λ i y. y ≡ count_if_told p i (length nodes) work)
+    (λ s i y t inv call. search rules) None _ _ 0 32 (refl, refl, refl) c.from_fn.ensures.items.each d (omega arith) (omega arith)
