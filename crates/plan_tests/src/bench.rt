@@ -41,16 +41,16 @@ fn front<T>(all: &mut [T], most: usize) -> &mut [T] {
 }
 
 fn line_of(lines: &[Option<Table>], line: u8) -> Table {
-    if let Some(Some(codes)) = lines.get(line as usize) {
-        return *codes;
-    }
-    [0; 16]
+    lines
+        .get(line as usize)
+        .copied()
+        .flatten()
+        .unwrap_or([0; 16])
 }
 
 // The count, the codes and the likenesses of a line.
 fn check_line(
-    rt: &impl Abort,
-    heap: Global,
+    rt: &(impl Abort + AllocGlobal),
     plan: &OpenPlan,
     order: &[u8],
     line: u8,
@@ -59,7 +59,7 @@ fn check_line(
     work: &mut [u32],
 ) -> Result<(), Fail> {
     let count = plan.count(nodes, work, line)?;
-    assert_eq!(rt; count as usize, count_parts(heap, &[codes], order)?);
+    assert_eq!(rt; count as usize, count_parts(rt.alloc(), &[codes], order)?);
     for address in 0..addresses(order.len()) {
         let code = plan.read(nodes, line, address as u32)?;
         assert_eq!(rt; code, code_at(&codes, address));
@@ -69,19 +69,18 @@ fn check_line(
 
 // Every held line, each pair of them, and the used number.
 fn check_lines(
-    rt: &impl Abort,
-    heap: Global,
+    rt: &(impl Abort + AllocGlobal),
     plan: &OpenPlan,
     order: &[u8],
     lines: &[Option<Table>; 8],
     nodes: &[Node],
     work: &mut [u32],
 ) -> Result<(), Fail> {
-    let mut held = Vec::new(heap);
+    let mut held = Vec::new(rt.alloc());
     for a in 0..8u8 {
         if let Some(codes) = lines[a as usize] {
             held.push(codes)?;
-            check_line(rt, heap, plan, order, a, codes, nodes, work)?;
+            check_line(rt, plan, order, a, codes, nodes, work)?;
             for b in 0..8u8 {
                 if let Some(others) = lines[b as usize] {
                     assert_eq!(rt; plan.same(a, b)?, codes == others);
@@ -89,7 +88,10 @@ fn check_lines(
             }
         }
     }
-    assert_eq!(rt; plan.used() as usize, count_parts(heap, &held, order)?);
+    assert_eq!(rt;
+        plan.used() as usize,
+        count_parts(rt.alloc(), &held, order)?
+    );
     Ok(())
 }
 
@@ -159,39 +161,37 @@ impl<'a> Bench<'a> {
     }
 
     // All that can be asked of the plan.
-    fn check_all(&mut self, rt: &impl Abort, heap: Global) -> Result<(), Fail> {
+    fn check_all(&mut self, rt: &(impl Abort + AllocGlobal)) -> Result<(), Fail> {
         let order = self.order;
         let lines = self.lines;
         let size = self.lent.nodes;
         let nodes = front(&mut self.nodes, size);
-        check_lines(rt, heap, &self.plan, order, &lines, nodes, &mut self.work)
+        check_lines(rt, &self.plan, order, &lines, nodes, &mut self.work)
     }
 
     // A call that tells this, with so much lent; a refused one changes nothing.
     pub fn step_with(
         &mut self,
-        rt: &impl Abort,
-        heap: Global,
+        rt: &(impl Abort + AllocGlobal),
         step: Step,
         lent: Lent,
         told: &str,
     ) -> Result<(), Fail> {
-        assert_eq!(rt; self.told(heap, step, lent)?.as_str(), told);
+        assert_eq!(rt; self.told(rt.alloc(), step, lent)?.as_str(), told);
         if told == DONE {
             self.note(step);
         }
-        self.check_all(rt, heap)
+        self.check_all(rt)
     }
 
     // The same with all lent that the plan asks for.
     pub fn step(
         &mut self,
-        rt: &impl Abort,
-        heap: Global,
+        rt: &(impl Abort + AllocGlobal),
         step: Step,
         told: &str,
     ) -> Result<(), Fail> {
         let lent = self.lent;
-        self.step_with(rt, heap, step, lent, told)
+        self.step_with(rt, step, lent, told)
     }
 }

@@ -14,7 +14,7 @@ fn check_join(rt: &(impl Abort + AllocGlobal), bench: &mut Bench, how: How) -> R
         Step::Erase(3),
         Step::Erase(4),
     ] {
-        bench.step(rt, rt.alloc(), step, DONE)?;
+        bench.step(rt, step, DONE)?;
     }
     Ok(())
 }
@@ -28,7 +28,7 @@ fn check_pair(
 ) -> Result<(), Fail> {
     let mut bench = Bench::new(rt.alloc(), order, 8)?;
     for map in maps {
-        bench.step(rt, rt.alloc(), map, DONE)?;
+        bench.step(rt, map, DONE)?;
     }
     for how in hows {
         check_join(rt, &mut bench, *how)?;

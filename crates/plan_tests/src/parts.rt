@@ -1,6 +1,7 @@
 // Parts, counted by writing all of them down.
 use crate::truth::{Table, bit_of, code_at};
 use std::alloc::{AllocError, Global};
+use std::array;
 
 // What is left of a table once the pins before a place are fixed; at every address, so that the fixed bits do not matter.
 #[derive(Clone, Copy, PartialEq, Eq)]
@@ -11,30 +12,17 @@ struct Part {
 
 // The table with these bits of the address taken from the values.
 fn cofactor(codes: &Table, fixed: usize, values: usize) -> Table {
-    let mut made = [0; 16];
-    for address in 0..16 {
+    array::from_fn(|address| {
         let free = (address | fixed) ^ fixed;
-        made[address] = code_at(codes, free | values & fixed);
-    }
-    made
+        code_at(codes, free | values & fixed)
+    })
 }
 
 fn matters(codes: &Table, bit: usize) -> bool {
-    for address in 0..16 {
-        if codes[address] != code_at(codes, address ^ bit) {
-            return true;
-        }
-    }
-    false
-}
-
-fn is_among(parts: &[Part], part: Part) -> bool {
-    for other in parts {
-        if *other == part {
-            return true;
-        }
-    }
-    false
+    codes
+        .iter()
+        .enumerate()
+        .any(|(address, code)| *code != code_at(codes, address ^ bit))
 }
 
 fn add_parts(
@@ -49,7 +37,7 @@ fn add_parts(
             place,
             codes: cofactor(codes, fixed, values),
         };
-        if matters(&part.codes, bit) && !is_among(parts, part) {
+        if matters(&part.codes, bit) && !parts.contains(&part) {
             parts.push(part)?;
         }
     }
@@ -60,8 +48,8 @@ fn add_parts(
 pub fn count_parts(heap: Global, tables: &[Table], order: &[u8]) -> Result<usize, AllocError> {
     let mut parts = Vec::new(heap);
     let mut fixed = 0;
-    for place in 0..order.len() {
-        let bit = bit_of(order.len(), order[place]);
+    for (place, pin) in order.iter().enumerate() {
+        let bit = bit_of(order.len(), *pin);
         for codes in tables {
             add_parts(&mut parts, codes, place, fixed, bit)?;
         }

@@ -4,7 +4,6 @@ use crate::steps::Step;
 use crate::truth::How;
 use model::Node;
 use plans::open::OpenPlan;
-use std::alloc::Global;
 use std::process::Abort;
 use std::test::Fail;
 
@@ -110,10 +109,10 @@ const OTHERS: [Row; 17] = [
 fn check_rows(rt: &(impl Abort + AllocGlobal), rows: &[Row]) -> Result<(), Fail> {
     let mut bench = Bench::new(rt.alloc(), &[0, 1], 3)?;
     for step in HELD {
-        bench.step(rt, rt.alloc(), step, DONE)?;
+        bench.step(rt, step, DONE)?;
     }
     for (step, lent, told) in rows {
-        bench.step_with(rt, rt.alloc(), *step, *lent, *told)?;
+        bench.step_with(rt, *step, *lent, *told)?;
     }
     Ok(())
 }
@@ -127,16 +126,15 @@ fn of_every_call(rt: HostRuntime) -> Result<(), Fail> {
 }
 
 fn check_made(
-    rt: &impl Abort,
-    heap: Global,
+    rt: &(impl Abort + AllocGlobal),
     order: &[u8],
     size: usize,
     told: &str,
 ) -> Result<(), Fail> {
-    match OpenPlan::new(order, &vec![in heap; Node::blank(); size]?) {
+    match OpenPlan::new(order, &vec![in rt.alloc(); Node::blank(); size]?) {
         Ok(_) => Err(Fail::new("it was made")),
         Err(fault) => {
-            assert_eq!(rt; fault.to_string(heap)?.as_str(), told);
+            assert_eq!(rt; fault.to_string(rt.alloc())?.as_str(), told);
             Ok(())
         },
     }
@@ -144,10 +142,10 @@ fn check_made(
 
 #[test]
 fn of_making(rt: HostRuntime) -> Result<(), Fail> {
-    check_made(&rt, rt.alloc(), &[], 0, "REFUSED 12 P 0")?;
-    check_made(&rt, rt.alloc(), &[0; 21], 0, "REFUSED 12 P 21")?;
-    check_made(&rt, rt.alloc(), &[0, 1, 1, 3], 0, "REFUSED 13 P 2")?;
-    check_made(&rt, rt.alloc(), &[2, 2], 0, "REFUSED 13 P 0")?;
-    check_made(&rt, rt.alloc(), &[1, 0], 0, "REFUSED 18 P 0")?;
-    check_made(&rt, rt.alloc(), &[1, 0], 4097, "REFUSED 18 P 4097")
+    check_made(&rt, &[], 0, "REFUSED 12 P 0")?;
+    check_made(&rt, &[0; 21], 0, "REFUSED 12 P 21")?;
+    check_made(&rt, &[0, 1, 1, 3], 0, "REFUSED 13 P 2")?;
+    check_made(&rt, &[2, 2], 0, "REFUSED 13 P 0")?;
+    check_made(&rt, &[1, 0], 0, "REFUSED 18 P 0")?;
+    check_made(&rt, &[1, 0], 4097, "REFUSED 18 P 4097")
 }

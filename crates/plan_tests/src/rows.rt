@@ -52,7 +52,7 @@ const ROW: [(Step, &'static str); 27] = [
 fn check_row(rt: &(impl Abort + AllocGlobal), order: &[u8]) -> Result<(), Fail> {
     let mut bench = Bench::new(rt.alloc(), order, 90)?;
     for (step, told) in ROW {
-        bench.step(rt, rt.alloc(), step, told)?;
+        bench.step(rt, step, told)?;
     }
     Ok(())
 }

@@ -75,14 +75,6 @@ fn join(
     }
 }
 
-// The refusal in what a call tells.
-fn refusal<T: Drop>(told: Result<T, Fault>) -> Option<Fault> {
-    match told {
-        Ok(_) => None,
-        Err(fault) => Some(fault),
-    }
-}
-
 // Makes the call on a plan of so many pins, and hands back its refusal.
 pub fn run(
     heap: Global,
@@ -96,21 +88,24 @@ pub fn run(
     Ok(match step {
         Step::Bits(pattern, d) => {
             let bytes = bit_file(heap, pins, &bits(pins, pattern))?;
-            refusal(plan.draw(&BitFile::over(&bytes), d, nodes, records, work))
+            plan.draw(&BitFile::over(&bytes), d, nodes, records, work)
+                .err()
         }
         Step::Settings(pattern, d) => {
             let bytes = setting_file(heap, pins, &settings(pins, pattern))?;
-            refusal(plan.draw(&SettingFile::over(&bytes), d, nodes, records, work))
+            plan.draw(&SettingFile::over(&bytes), d, nodes, records, work)
+                .err()
         }
         Step::Other(pins, d) => {
             let bytes = bit_file(heap, pins, &[0; 16])?;
-            refusal(plan.draw(&BitFile::over(&bytes), d, nodes, records, work))
+            plan.draw(&BitFile::over(&bytes), d, nodes, records, work)
+                .err()
         }
-        Step::Join(how, a, b, d) => refusal(join(plan, how, a, b, d, nodes, work)),
-        Step::Strap(a, pin, high, d) => refusal(plan.strap(a, pin, high, d, nodes, work)),
-        Step::Erase(d) => refusal(plan.erase(nodes, work, d)),
-        Step::Read(a, address) => refusal(plan.read(nodes, a, address)),
-        Step::Same(a, b) => refusal(plan.same(a, b)),
-        Step::Count(a) => refusal(plan.count(nodes, work, a)),
+        Step::Join(how, a, b, d) => join(plan, how, a, b, d, nodes, work).err(),
+        Step::Strap(a, pin, high, d) => plan.strap(a, pin, high, d, nodes, work).err(),
+        Step::Erase(d) => plan.erase(nodes, work, d).err(),
+        Step::Read(a, address) => plan.read(nodes, a, address).err(),
+        Step::Same(a, b) => plan.same(a, b).err(),
+        Step::Count(a) => plan.count(nodes, work, a).err(),
     })
 }

@@ -13,7 +13,7 @@ const PATTERNS: [u64; 4] = [0xFFE0, 0x0FF0, 0x6996, 0xB2E4];
 // does not matter any more.
 fn check_straps(rt: &(impl Abort + AllocGlobal), order: &[u8], pattern: u64) -> Result<(), Fail> {
     let mut bench = Bench::new(rt.alloc(), order, 30)?;
-    bench.step(rt, rt.alloc(), Step::Bits(pattern, 0), DONE)?;
+    bench.step(rt, Step::Bits(pattern, 0), DONE)?;
     for pin in 0..4 {
         for step in [
             Step::Strap(0, pin, false, 1),
@@ -23,7 +23,7 @@ fn check_straps(rt: &(impl Abort + AllocGlobal), order: &[u8], pattern: u64) -> 
             Step::Erase(2),
             Step::Erase(3),
         ] {
-            bench.step(rt, rt.alloc(), step, DONE)?;
+            bench.step(rt, step, DONE)?;
         }
     }
     Ok(())

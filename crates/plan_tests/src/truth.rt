@@ -1,6 +1,8 @@
 // Truth tables: the code of each address of 4 pins. A table of fewer pins repeats itself.
 ghost use Rattle.std.specs.Prelude.{◌≤◌};
 
+use std::array;
+
 pub type Table = [u16; 16];
 
 // Chip 0 with 1 wait, chip 1 with none, and chips 2 and 3 with 1 wait each, so that the left of them wins.
@@ -32,30 +34,22 @@ pub fn bit_of(pins: usize, pin: u8) -> usize {
 }
 
 pub fn code_at(codes: &[u16], address: usize) -> u16 {
-    if address < codes.len() {
-        codes[address]
-    } else {
-        0
-    }
+    codes.get(address).copied().unwrap_or(0)
 }
 
 // A bit of the pattern for each address, lowest first.
 pub fn bits(pins: usize, pattern: u64) -> Table {
-    let mut made = [0; 16];
-    for address in 0..16 {
-        made[address] = ((pattern >> (address % addresses(pins))) % 2) as u16;
-    }
-    made
+    let count = addresses(pins);
+    array::from_fn(|address| ((pattern >> (address % count)) % 2) as u16)
 }
 
 // Two bits of the pattern for each setting, lowest first.
 pub fn settings(pins: usize, pattern: u64) -> Table {
-    let mut made = [0; 16];
-    for address in 0..16 {
-        let which = (pattern >> (2 * (address % addresses(pins)))) % 4;
-        made[address] = code_at(&SETTINGS, which as usize);
-    }
-    made
+    let count = addresses(pins);
+    array::from_fn(|address| {
+        let which = (pattern >> (2 * (address % count))) % 4;
+        code_at(&SETTINGS, which as usize)
+    })
 }
 
 // The setting that wins: one with a chip before one with none, then the one with more waits, then the left.
@@ -71,25 +65,21 @@ fn overlaid(left: u16, right: u16) -> u16 {
 }
 
 pub fn joined(how: How, left: &Table, right: &Table) -> Table {
-    let mut made = [0; 16];
-    for address in 0..16 {
+    array::from_fn(|address| {
         let (l, r) = (left[address], right[address]);
-        made[address] = match how {
+        match how {
             How::Both => l & r,
             How::Either => l | r,
             How::Differ => l ^ r,
             How::Overlay => overlaid(l, r),
-        };
-    }
-    made
+        }
+    })
 }
 
 // Each address with the code that it has once the bit is set.
 pub fn strapped(codes: &Table, bit: usize, high: bool) -> Table {
-    let mut made = [0; 16];
-    for address in 0..16 {
+    array::from_fn(|address| {
         let set = address | bit;
-        made[address] = code_at(codes, if high { set } else { set ^ bit });
-    }
-    made
+        code_at(codes, if high { set } else { set ^ bit })
+    })
 }
