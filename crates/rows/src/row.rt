@@ -7,6 +7,7 @@ use plans::open::OpenPlan;
 use trees::tree::Record;
 
 // A row of calls on one plan, with the tables that are lent to it.
+// The tables are three parameters: for a struct that holds them each contract would have to say that its three references stay the same.
 pub trait Row {
     // The calls, with tables of these lengths.
     ghost calls: { Self → Lent → List Call };
