@@ -19,7 +19,7 @@ nothing_meant n T order (suc k) = (tt, nothing_meant n T order k)
 nothing_reached : (T : Table) → Reaches T [] []
 nothing_reached T = record { apart = tt; reached = λ i m. absurd m; all = λ i r. absurd r.1 }
 
-pub new_holds : (order : List ℕ) (nodes : List Node) (h : Header) → order ≡ take h.pins h.order → length nodes ≡ h.size → h.lines ≡ replicate 32 None → h.used ≡ 0
+pub new_holds : (order : List ℕ) (nodes : List Node) (h : Header) → order ≡ take h.pins h.order → length nodes ≡ h.size → h.lines ≡ replicate 32 None → h.usage.used ≡ 0
     → Holds h nodes (empty_plan order (length nodes))
 new_holds order nodes h o s l u = record {
   heads = record { order = o; size = s };

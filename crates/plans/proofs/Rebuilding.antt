@@ -53,7 +53,7 @@ module _ (h : Header) (nodes : List Node) (p : Plain) (heads : Heads h p) (whole
       let r = reaches.reached i m in
       follow_in (pins p) (listed nodes) (λ i. In i us) ordered r.2.0 0 r.0 i (from r.0 r.1) r.2.1
 
-  pub holds_again : LineForLine (Means (pins p) (listed nodes) p.order) h.lines p.lines → length reachable ≡ h.used → Holds h nodes p
+  pub holds_again : LineForLine (Means (pins p) (listed nodes) p.order) h.lines p.lines → length reachable ≡ h.usage.used → Holds h nodes p
   holds_again lines used = record {
     heads = heads;
     whole = whole;
@@ -73,11 +73,11 @@ pub put_holds : (h : Header) (nodes : List Node) (p : Plain) → Heads h p → (
     → Holds h' nodes (with_line p d y)
 put_holds h nodes p heads d x y h' put whole us ordered reduced from lines =
     let from' : (b : Branch) → In b (held (h'.lines)) → From (λ i. In i us) (listed nodes) 0 b = subst (λ (ls : List (Option Branch)). (b : Branch) → In b (held ls) → From (λ i. In i us) (listed nodes) 0 b) (sym put.lines) from in
-    let many = subst (λ (n : ℕ). ReachesMany n nodes ((set h.lines d x)) h'.used) (sym (heads_pins h p heads)) put.many in
+    let many = subst (λ (n : ℕ). ReachesMany n nodes ((set h.lines d x)) h'.usage.used) (sym (heads_pins h p heads)) put.many in
     let told = many us (record { ordered = ordered; reduced = reduced }) from in
     holds_again h' nodes (with_line p d y) (record { order = heads.order ∙ sym put.order; size = heads.size ∙ sym put.size }) whole us ordered reduced from'
     (subst (λ (ls : List (Option Branch)). LineForLine (Means (pins p) (listed nodes) p.order) ls (set p.lines d y)) (sym put.lines) lines)
-    (subst (λ (ls : List (Option Branch)). length (numbering (listed nodes) (pins p) 0 (held ls)) ≡ h'.used) (sym put.lines)
+    (subst (λ (ls : List (Option Branch)). length (numbering (listed nodes) (pins p) 0 (held ls)) ≡ h'.usage.used) (sym put.lines)
     (told (numbering (listed nodes) (pins p) 0 (held ((set h.lines d x)))) (numbering_reaches (pins p) (listed nodes) us ordered (held ((set h.lines d x))) from)))
 
 -- what a call leaves, by what it tells

@@ -35,7 +35,7 @@ pub reduced_within : (nodes : List Node) (us vs : List ℕ) → Reduced (listed 
 reduced_within nodes us vs r w = record { tested = λ i m. r.tested i (w i m); shared = λ i k m q. r.shared i k (w i m) (w k q) }
 
 module _ (h : Header) (nodes : List Node) (p : Plain) (o : Holds h nodes p) where
-  pub used_holds : h.used ≡ used_of p
+  pub used_holds : h.usage.used ≡ used_of p
   used_holds = o.used ∙ used_is_exact (pins p) p.order (order_is h nodes p o) (listed nodes) h.lines p.lines o.lines o.reachable o.reached o.ordered o.reduced
 
 count_within : (n size d k work : ℕ) → None ≡ count_refusal n size d k work → d < 32

@@ -28,7 +28,7 @@ pub record Holds (h : Header) (nodes : List Node) (p : Plain) : Type 0 where
   pub ordered : Ordered (pins p) (listed nodes) (λ i. In i reachable)
   pub reduced : Reduced (listed nodes) (λ i. In i reachable)
   pub lines : LineForLine (Means (pins p) (listed nodes) p.order) h.lines p.lines
-  pub used : h.used ≡ length reachable
+  pub used : h.usage.used ≡ length reachable
 
 -- What a call did, whatever plain plan was held at its entry.
 pub record Did (h : Header) (nodes : List Node) (c : Call) (r : Result (Unit {0}) Fault) (h' : Header) (nodes' : List Node) : Type 0 where

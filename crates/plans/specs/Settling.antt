@@ -14,7 +14,7 @@ pub record Put (h : Header) (nodes : List Node) (d : ℕ) (l : Option Branch) (h
   pub order : order_of h' ≡ order_of h
   pub size : h'.size ≡ h.size
   pub lines : h'.lines ≡ slice_set h.lines d l
-  pub many : ReachesMany h.pins nodes (slice_set h.lines d l) h'.used
+  pub many : ReachesMany h.pins nodes (slice_set h.lines d l) h'.usage.used
 
 -- a root that was grown is put on the line; none means that there was no room for it
 abbrev pub Settles : Header → List Node → ℕ → Option Branch → Result (Unit {0}) Fault → Header → Type 0

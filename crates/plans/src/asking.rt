@@ -53,7 +53,7 @@ impl OpenPlan {
     pub fn used(&self) -> u16
         ensures { Uses self.now.header result }
     {
-        self.header.used
+        self.header.usage.used
     }
 
     // The number of nodes of one line.

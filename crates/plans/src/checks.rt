@@ -69,12 +69,14 @@ impl Header {
         self.lines[line.number as usize]
     }
 
-    // The root of a held line; an empty one stops the call.
+    // The root of a held line; an empty one stops the call, and by a rule of the project does so in the other arm here.
     pub(crate) fn root(&self, line: LineNumber) -> Result<Branch, Fault>
         ensures { MatchResult result (λ root. slice_index_or self.now.lines line.number None ≡ Some root) (λ f. (slice_index_or self.now.lines line.number None ≡ None) × (f ≡ at LineEmpty line.number)) }
     {
-        self.line(line)
-            .ok_or(Ground::LineEmpty.at(line.number as usize))
+        let Some(root) = self.line(line) else {
+            return Err(Ground::LineEmpty.at(line.number as usize));
+        };
+        Ok(root)
     }
 
     // A line that is still empty.

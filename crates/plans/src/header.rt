@@ -4,7 +4,13 @@ ghost use Rattle.plans.specs.Orders.{misplaced_below};
 
 use tables::line::Line;
 
-// A plan without its node table: an order of pins, 32 lines, the length of the table, and the number of nodes that are reached from the held lines.
+// The number of nodes that are reached from the held lines. A record of its own, so that it can be lent by itself.
+#[derive(Clone, Copy)]
+pub struct Usage {
+    pub used: u16,
+}
+
+// A plan without its node table: an order of pins, 32 lines, the length of the table, and the used number.
 // The order is an array with the number of its pins, since a plan has no heap.
 #[derive(Clone, Copy)]
 pub struct Header {
@@ -12,7 +18,7 @@ pub struct Header {
     pub(crate) pins: u8,
     pub(crate) lines: [Line; 32],
     pub(crate) size: usize,
-    pub(crate) used: u16,
+    pub(crate) usage: Usage,
     ghost some: { 1 ≤ pins },
     ghost few: { pins ≤ 20 },
     ghost room: { length order ≡ 20 },

@@ -2,7 +2,7 @@ ghost use Rattle.std.specs.Prelude.{◌≡◌, length, Some, MatchResult};
 ghost use Rattle.plans.specs.Holding.{Made};
 ghost use Rattle.plans.specs.Plain.{make_told};
 
-use crate::header::Header;
+use crate::header::{Header, Usage};
 use crate::open::OpenPlan;
 use crate::order::{check_order, padded};
 use faults::fault::{Fault, Ground};
@@ -28,7 +28,7 @@ impl OpenPlan {
             pins: pins as u8,
             lines: [None; 32],
             size,
-            used: 0,
+            usage: Usage { used: 0 },
         };
         Ok(OpenPlan::over(header))
     }

@@ -1,6 +1,6 @@
 ghost use Rattle.plans.specs.Settling.{Put, Settles};
 
-use crate::header::Header;
+use crate::header::{Header, Usage};
 use crate::line_number::LineNumber;
 use crate::marking::{Marking, reached_count};
 use faults::fault::{Fault, Ground};
@@ -13,7 +13,8 @@ impl Header {
         ensures { Put self.old over.old.nodes.now line.number what self.new }
     {
         self.lines[line.number as usize] = what;
-        self.used = reached_count(over, self.pins, &self.lines);
+        let used = reached_count(over, self.pins, &self.lines);
+        self.usage = Usage { used };
     }
 
     // Puts the root that was grown on a line, or refuses where there was no room for it.
