@@ -107,7 +107,7 @@ module _ (tree : Tree) (records : List Record) (order : List ℕ) (d mask value 
 -- the growth from the first place on, in a table t that was prepared, which leaves it as t' and the nodes as last
 pub drawn_root : (tree : Tree) (records : List Record) (order : List ℕ) (n : ℕ) (nodes : List Node) (work : List ℕ) (lines : List (Option Branch)) (t t' : Growing) → t.pins ≡ n → t.nodes.now ≡ nodes
     → Prepares n nodes work lines t.marks.now t.index.now → (last : List Node) → t'.nodes.now ≡ last → (r : Option Branch)
-    → DrawsIn tree records order (record { place = 0; mask = 0; value = 0 }) t t' r → DrawsRoot tree records order nodes work n lines last r
+    → DrawsIn tree records order (record { place = 0; bits = record { mask = 0; value = 0 } }) t t' r → DrawsRoot tree records order nodes work n lines last r
 drawn_root tree records order n nodes work lines t t' pins_are nodes_are prepared last ended r draws f built long names =
     let e : tree.pins ≡ n = built.pins in
     let from_none : Draws tree records order 0 0 0 nodes t.marks.now t.index.now t'.nodes.now t'.marks.now t'.index.now r =

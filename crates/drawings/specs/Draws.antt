@@ -22,7 +22,7 @@ Draws tree records order d mask value nodes marks index nodes' marks' index' r =
 -- the same in a growing table with the tree's pins
 abbrev pub DrawsIn : Tree → List Record → List ℕ → FixedPins → Growing → Growing → Option Branch → Type 0
 DrawsIn tree records order k t t' r =
-    t.pins ≡ tree.pins → Draws tree records order k.place k.mask k.value t.nodes.now t.marks.now t.index.now t'.nodes.now t'.marks.now t'.index.now r
+    t.pins ≡ tree.pins → Draws tree records order k.place k.bits.mask k.bits.value t.nodes.now t.marks.now t.index.now t'.nodes.now t'.marks.now t'.index.now r
 
 -- growing a root for a selection whose tree was built, beside lines
 abbrev pub DrawsRoot : Tree → List Record → List ℕ → List Node → List ℕ → ℕ → List (Option Branch) → List Node → Option Branch → Type 0

@@ -6,6 +6,7 @@ ghost use Rattle.drawings.specs.Draws.{DrawsIn, DrawsRoot};
 use model::{Branch, Node};
 use tables::adding::Growing;
 use tables::line::Line;
+use trees::read::FixedBits;
 use trees::tree::{Record, Tree};
 
 // No plan has more pins.
@@ -29,12 +30,11 @@ pub struct Subject<'a> {
     pub order: &'a [u8],
 }
 
-// The pins before `place` in an order, those in `mask`, fixed to their bits in `value`.
+// The pins before `place` in an order, as bits of an address, fixed.
 #[derive(Clone, Copy)]
 pub struct FixedPins {
     pub place: u8,
-    pub mask: u32,
-    pub value: u32,
+    pub bits: FixedBits,
 }
 
 // A branch for what a tree leaves where pins are fixed. None where no slot is left.
@@ -42,25 +42,29 @@ pub fn draw_tree(subject: Subject, growing: &mut Growing, fixed: FixedPins) -> O
     ensures loans { KeepsLoans growing.old growing.new }
     ensures draws { DrawsIn subject.entry.tree subject.entry.records.now subject.entry.order.now fixed growing.old growing.new result }
 {
-    if let Some(code) = subject
-        .tree
-        .code_left(subject.records, fixed.mask, fixed.value)
-    {
+    if let Some(code) = subject.tree.code_left(subject.records, fixed.bits) {
         return Some(Branch::End(code));
     }
     let pins = subject.order.len();
-    let FixedPins { place, mask, value } = fixed;
+    let FixedPins { place, bits } = fixed;
     if pins > MOST_PINS || place as usize >= pins {
         return None;
     }
     let bit = pin_bit(pins, subject.order[place as usize]);
+    let low = FixedBits {
+        mask: bits.mask | bit,
+        value: bits.value,
+    };
+    let high = FixedBits {
+        value: bits.value | bit,
+        ..low
+    };
     let with_low = FixedPins {
         place: place + 1,
-        mask: mask | bit,
-        value,
+        bits: low,
     };
     let with_high = FixedPins {
-        value: value | bit,
+        bits: high,
         ..with_low
     };
     let low = draw_tree(subject, growing, with_low)?;
@@ -88,8 +92,7 @@ pub fn draw_root(
     };
     let none = FixedPins {
         place: 0,
-        mask: 0,
-        value: 0,
+        bits: FixedBits { mask: 0, value: 0 },
     };
     draw_tree(subject, &mut growing, none)
 }

@@ -12,7 +12,7 @@ use files::format::Format;
 use sources::block::Block;
 use sources::source::Answer;
 
-// The first and the last address of a block.
+// The first and the last address of a block. (That pins are few is an invariant of `MapFile`, of which this needs no more.)
 fn span(pins: u32, block: Block) -> (u32, u32)
     requires { (Inside pins block.level block.number) × (pins ≤ 20) }
     ensures { (result.0 ≡ block.number * 2 ^ (pins - block.level)) × (result.1 ≡ block.number * 2 ^ (pins - block.level) + (2 ^ (pins - block.level) - 1)) }

@@ -16,12 +16,21 @@ fn bit(number: u32, place: u32) -> bool
     (number >> place) % 2 == 1
 }
 
-// The bit of `value` at a place that `mask` fixes.
-fn fixed(mask: u32, value: u32, place: u32) -> Option<bool>
-    requires { place < 32 }
-    ensures { result ≡ fixed mask value place }
-{
-    bit(mask, place).then_some(bit(value, place))
+// Bits of an address that are fixed: those in `mask`, as they are in `value`.
+#[derive(Clone, Copy)]
+pub struct FixedBits {
+    pub mask: u32,
+    pub value: u32,
+}
+
+impl FixedBits {
+    // The bit at a place, if it is fixed.
+    fn at(self, place: u32) -> Option<bool>
+        requires { place < 32 }
+        ensures { result ≡ fixed self.mask self.value place }
+    {
+        bit(self.mask, place).then_some(bit(self.value, place))
+    }
 }
 
 impl Record {
@@ -60,9 +69,9 @@ fn code_below(table: &[Record], half: Half, left: u32, address: u32) -> u16
 }
 
 // The one code that is left in the block that `half` stands for, of which the last `left` pins are open.
-fn code_left_below(table: &[Record], half: Half, left: u32, mask: u32, value: u32) -> Option<u16>
+fn code_left_below(table: &[Record], half: Half, left: u32, bits: FixedBits) -> Option<u16>
     requires { left ≤ 20 }
-    ensures { (n : ℕ) (c : ℕ → ℕ) (j p : ℕ) (f : ℕ → ℕ) → Stands n c table.now j p left half f → Left left f mask value result }
+    ensures { (n : ℕ) (c : ℕ → ℕ) (j p : ℕ) (f : ℕ → ℕ) → Stands n c table.now j p left half f → Left left f bits.mask bits.value result }
 {
     match half {
         Half::Code(code) => Some(code),
@@ -70,14 +79,14 @@ fn code_left_below(table: &[Record], half: Half, left: u32, mask: u32, value: u3
             let record = *table.get(i)?;
             let below = left.checked_sub(1)?;
             // The block is mixed: with none of its pins fixed there is no need to walk it.
-            if mask % (1 << left) == 0 {
+            if bits.mask % (1 << left) == 0 {
                 return None;
             }
-            if let Some(high) = fixed(mask, value, below) {
-                return code_left_below(table, record.side(high), below, mask, value);
+            if let Some(high) = bits.at(below) {
+                return code_left_below(table, record.side(high), below, bits);
             }
-            let low = code_left_below(table, record.low, below, mask, value)?;
-            let high = code_left_below(table, record.high, below, mask, value)?;
+            let low = code_left_below(table, record.low, below, bits)?;
+            let high = code_left_below(table, record.high, below, bits)?;
             agreed(low, high)
         }
     }
@@ -95,13 +104,13 @@ impl Tree {
         code_below(table, self.root, self.pins, address)
     }
 
-    // The one code that is left where the pins in `mask` are fixed to their bits in `value`, or nothing if two are left.
-    pub fn code_left(self, table: &[Record], mask: u32, value: u32) -> Option<u16>
-        ensures { (c : ℕ → ℕ) → Built self.pins c table.now self → Left self.pins c mask value result }
+    // The one code that is left where bits are fixed, or nothing if two are left.
+    pub fn code_left(self, table: &[Record], bits: FixedBits) -> Option<u16>
+        ensures { (c : ℕ → ℕ) → Built self.pins c table.now self → Left self.pins c bits.mask bits.value result }
     {
         if self.pins > MOST_PINS {
             return None;
         }
-        code_left_below(table, self.root, self.pins, mask, value)
+        code_left_below(table, self.root, self.pins, bits)
     }
 }

@@ -4,6 +4,7 @@ ghost use Rattle.trees.specs.Records.{blank};
 use sources::block::Block;
 
 // What stands for a block: its code where all its addresses have one, or the index of its record where it is mixed.
+// By index, since records stand in a table that the caller lends, and no heap may hold them.
 #[derive(Clone, Copy)]
 pub enum Half {
     Code(u16),
