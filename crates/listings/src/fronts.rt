@@ -34,28 +34,6 @@ fn meet(front: &mut Row<u32>, seen: &mut [u32], branch: Branch)
     }
 }
 
-// Where a node leads by the pin at a place: low, and high.
-fn both_ways(nodes: &[Node], place: u8, i: u16) -> (Branch, Branch)
-    ensures low { result.0 ≡ next (listed nodes.now) place false (node i) }
-    ensures high { result.1 ≡ next (listed nodes.now) place true (node i) }
-{
-    let node = Branch::Node(i);
-    (
-        step(nodes, place, false, node),
-        step(nodes, place, true, node),
-    )
-}
-
-// Puts the nodes to which a node leads by the pin at a place behind a front: low, then high.
-fn meet_both(nodes: &[Node], front: &mut Row<u32>, seen: &mut [u32], place: u8, i: u16)
-    ensures room { room front.new ≡ room front.old }
-    ensures meets { MeetsBoth (listed nodes.now) place i (room front.old) (filled front.old) seen.old (filled front.new) seen.new }
-{
-    let (low, high) = both_ways(nodes, place, i);
-    meet(front, seen, low);
-    meet(front, seen, high);
-}
-
 // The front of the lines' roots, in the order of the lines.
 pub(crate) fn meet_lines(front: &mut Row<u32>, seen: &mut [u32], lines: &[Line])
     ensures room { room front.new ≡ room front.old }
@@ -70,47 +48,72 @@ pub(crate) fn meet_lines(front: &mut Row<u32>, seen: &mut [u32], lines: &[Line])
     }
 }
 
-// The next front, to which a front leads by the pin at a place.
-pub(crate) fn advance(
-    nodes: &[Node],
-    front: &[u32],
-    ahead: &mut Row<u32>,
-    seen: &mut [u32],
-    place: u8,
-)
-    ensures room { room ahead.new ≡ room ahead.old }
-    ensures advances { Advances (listed nodes.now) place front.now (room ahead.old) (filled ahead.new) seen.new }
-{
-    ahead.clear();
-    seen.fill(0);
-    for entry in front {
-        meet_both(nodes, ahead, seen, place, number_in(*entry));
+// A node table, seen at a place.
+#[derive(Clone, Copy)]
+pub(crate) struct Level<'a> {
+    pub(crate) nodes: &'a [Node],
+    pub(crate) place: u8,
+}
+
+impl<'a> Level<'a> {
+    // Where a node leads by the pin: low, and high.
+    fn both_ways(self, i: u16) -> (Branch, Branch)
+        ensures low { result.0 ≡ next (listed self.entry.nodes.now) self.entry.place false (node i) }
+        ensures high { result.1 ≡ next (listed self.entry.nodes.now) self.entry.place true (node i) }
+    {
+        let node = Branch::Node(i);
+        (
+            step(self.nodes, self.place, false, node),
+            step(self.nodes, self.place, true, node),
+        )
     }
-}
 
-// Whether a node asks the pin at a place.
-fn asks_pin(nodes: &[Node], entry: u32, place: u8) -> bool
-    ensures { result ≡ asks (listed nodes.now) place (short entry) }
-{
-    node_at(nodes, number_in(entry)).place == place
-}
-
-// Puts a node behind the numbered ones, if it asks the pin at a place.
-fn pick(nodes: &[Node], order: &mut Row<u32>, place: u8, entry: u32)
-    ensures room { room order.new ≡ room order.old }
-    ensures picks { Picks (listed nodes.now) place entry (room order.old) (filled order.old) (filled order.new) }
-{
-    if asks_pin(nodes, entry, place) {
-        order.push(entry);
+    // Puts the nodes to which a node leads by the pin behind a front: low, then high.
+    fn meet_both(self, front: &mut Row<u32>, seen: &mut [u32], i: u16)
+        ensures room { room front.new ≡ room front.old }
+        ensures meets { MeetsBoth (listed self.entry.nodes.now) self.entry.place i (room front.old) (filled front.old) seen.old (filled front.new) seen.new }
+    {
+        let (low, high) = self.both_ways(i);
+        meet(front, seen, low);
+        meet(front, seen, high);
     }
-}
 
-// Puts the nodes of a front that ask the pin at a place behind the numbered ones.
-pub(crate) fn pick_all(nodes: &[Node], front: &[u32], order: &mut Row<u32>, place: u8)
-    ensures room { room order.new ≡ room order.old }
-    ensures picks { PicksAll (listed nodes.now) place front.now (room order.old) (filled order.old) (filled order.new) }
-{
-    for entry in front {
-        pick(nodes, order, place, *entry);
+    // The next front, to which a front leads by the pin.
+    pub(crate) fn advance(self, front: &[u32], ahead: &mut Row<u32>, seen: &mut [u32])
+        ensures room { room ahead.new ≡ room ahead.old }
+        ensures advances { Advances (listed self.entry.nodes.now) self.entry.place front.now (room ahead.old) (filled ahead.new) seen.new }
+    {
+        ahead.clear();
+        seen.fill(0);
+        for entry in front {
+            self.meet_both(ahead, seen, number_in(*entry));
+        }
+    }
+
+    // Whether a node asks the pin.
+    fn asks_pin(self, entry: u32) -> bool
+        ensures { result ≡ asks (listed self.entry.nodes.now) self.entry.place (short entry) }
+    {
+        node_at(self.nodes, number_in(entry)).place == self.place
+    }
+
+    // Puts a node behind the numbered ones, if it asks the pin.
+    fn pick(self, order: &mut Row<u32>, entry: u32)
+        ensures room { room order.new ≡ room order.old }
+        ensures picks { Picks (listed self.entry.nodes.now) self.entry.place entry (room order.old) (filled order.old) (filled order.new) }
+    {
+        if self.asks_pin(entry) {
+            order.push(entry);
+        }
+    }
+
+    // Puts the nodes of a front that ask the pin behind the numbered ones.
+    pub(crate) fn pick_all(self, front: &[u32], order: &mut Row<u32>)
+        ensures room { room order.new ≡ room order.old }
+        ensures picks { PicksAll (listed self.entry.nodes.now) self.entry.place front.now (room order.old) (filled order.old) (filled order.new) }
+    {
+        for entry in front {
+            self.pick(order, *entry);
+        }
     }
 }

@@ -2,7 +2,7 @@ ghost use Rattle.std.specs.Prelude.{◌≡◌, ◌≤◌, length};
 ghost use Rattle.listings.specs.Rows.{filled, room};
 ghost use Rattle.listings.specs.Numbers.{NumbersFrom, Inverts, Numbers};
 
-use crate::fronts::{advance, meet_lines, pick_all};
+use crate::fronts::{Level, meet_lines};
 use crate::row::Row;
 use model::Node;
 use std::mem::swap;
@@ -22,9 +22,10 @@ fn number_from<'a>(
     ensures numbers { room ahead.old ≡ room front.old → length seen.old ≡ room front.old → NumbersFrom pins nodes.now 0 (filled front.old) (room front.old) (room order.old) (filled order.old) (filled order.new) }
 {
     for place in 0..pins {
+        let level = Level { nodes, place };
         let here = front.filled();
-        pick_all(nodes, here, order, place);
-        advance(nodes, here, ahead, seen, place);
+        level.pick_all(here, order);
+        level.advance(here, ahead, seen);
         swap(front, ahead);
     }
 }
