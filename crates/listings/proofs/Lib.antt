@@ -1,3 +1,4 @@
+pub mod Loans
 pub mod Meeting
 pub mod Leading
 pub mod Shortening

@@ -1,6 +1,6 @@
 ghost use Rattle.std.specs.Prelude.{◌≡◌, true, false};
 ghost use Rattle.listings.specs.Labels.{short};
-ghost use Rattle.listings.specs.Rows.{filled, room};
+ghost use Rattle.listings.specs.Rows.{filled, room, KeepsLoan};
 ghost use Rattle.listings.specs.Fronts.{asks, Meets, MeetsBoth, MeetsLines, Advances, Picks, PicksAll};
 ghost use Rattle.model.specs.Diagrams.{listed, next};
 ghost use Rattle.model.specs.declared.Branch.TheVariants.{Node as node};
@@ -21,7 +21,7 @@ pub(crate) fn number_in(entry: u32) -> u16
 // Puts the node of a branch behind a front, if it is not there yet.
 // The marks stand apart from the row: both rows of nodes use them in turn.
 fn meet(front: &mut Row<u32>, seen: &mut [u32], branch: Branch)
-    ensures room { room front.new ≡ room front.old }
+    ensures loan { KeepsLoan front.old front.new }
     ensures meets { Meets (room front.old) (filled front.old) seen.old branch (filled front.new) seen.new }
 {
     let Branch::Node(i) = branch else {
@@ -36,7 +36,7 @@ fn meet(front: &mut Row<u32>, seen: &mut [u32], branch: Branch)
 
 // The front of the lines' roots, in the order of the lines.
 pub(crate) fn meet_lines(front: &mut Row<u32>, seen: &mut [u32], lines: &[Line])
-    ensures room { room front.new ≡ room front.old }
+    ensures loan { KeepsLoan front.old front.new }
     ensures meets { MeetsLines lines.now (room front.old) (filled front.new) seen.new }
 {
     front.clear();
@@ -70,7 +70,7 @@ impl<'a> Level<'a> {
 
     // Puts the nodes to which a node leads by the pin behind a front: low, then high.
     fn meet_both(self, front: &mut Row<u32>, seen: &mut [u32], i: u16)
-        ensures room { room front.new ≡ room front.old }
+        ensures loan { KeepsLoan front.old front.new }
         ensures meets { MeetsBoth (listed self.entry.nodes.now) self.entry.place i (room front.old) (filled front.old) seen.old (filled front.new) seen.new }
     {
         let (low, high) = self.both_ways(i);
@@ -80,7 +80,7 @@ impl<'a> Level<'a> {
 
     // The next front, to which a front leads by the pin.
     pub(crate) fn advance(self, front: &[u32], ahead: &mut Row<u32>, seen: &mut [u32])
-        ensures room { room ahead.new ≡ room ahead.old }
+        ensures loan { KeepsLoan ahead.old ahead.new }
         ensures advances { Advances (listed self.entry.nodes.now) self.entry.place front.now (room ahead.old) (filled ahead.new) seen.new }
     {
         ahead.clear();
@@ -99,7 +99,7 @@ impl<'a> Level<'a> {
 
     // Puts a node behind the numbered ones, if it asks the pin.
     fn pick(self, order: &mut Row<u32>, entry: u32)
-        ensures room { room order.new ≡ room order.old }
+        ensures loan { KeepsLoan order.old order.new }
         ensures picks { Picks (listed self.entry.nodes.now) self.entry.place entry (room order.old) (filled order.old) (filled order.new) }
     {
         if self.asks_pin(entry) {
@@ -109,7 +109,7 @@ impl<'a> Level<'a> {
 
     // Puts the nodes of a front that ask the pin behind the numbered ones.
     pub(crate) fn pick_all(self, front: &[u32], order: &mut Row<u32>)
-        ensures room { room order.new ≡ room order.old }
+        ensures loan { KeepsLoan order.old order.new }
         ensures picks { PicksAll (listed self.entry.nodes.now) self.entry.place front.now (room order.old) (filled order.old) (filled order.new) }
     {
         for entry in front {

@@ -1,5 +1,5 @@
 ghost use Rattle.std.specs.Prelude.{◌≡◌, ◌≤◌, length};
-ghost use Rattle.listings.specs.Rows.{filled, room};
+ghost use Rattle.listings.specs.Rows.{filled, room, KeepsLoan};
 ghost use Rattle.listings.specs.Numbers.{NumbersFrom, Inverts, Numbers};
 
 use crate::fronts::{Level, meet_lines};
@@ -18,7 +18,7 @@ fn number_from<'a>(
     order: &mut Row<u32>,
     pins: u8,
 )
-    ensures room { room order.new ≡ room order.old }
+    ensures loan { KeepsLoan order.old order.new }
     ensures numbers { room ahead.old ≡ room front.old → length seen.old ≡ room front.old → NumbersFrom pins nodes.now 0 (filled front.old) (room front.old) (room order.old) (filled order.old) (filled order.new) }
 {
     for place in 0..pins {

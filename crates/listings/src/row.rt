@@ -9,7 +9,7 @@ pub(crate) struct Row<'a, T> {
 }
 
 impl<'a, T: Copy> Row<'a, T> {
-    ghost use Rattle.listings.specs.Rows.{filled, room};
+    ghost use Rattle.listings.specs.Rows.{filled, room, KeepsLoan};
 
     pub(crate) fn over(entries: &'a mut [T]) -> Row<'a, T>
         ensures same_slice { result.entries.ghost_name ≡ entries.entry.ghost_name }
@@ -20,8 +20,7 @@ impl<'a, T: Copy> Row<'a, T> {
     }
 
     pub(crate) fn clear(&mut self)
-        ensures same_slice { self.new.entries.ghost_name ≡ self.old.entries.ghost_name }
-        ensures room { room self.new ≡ room self.old }
+        ensures loan { KeepsLoan self.old self.new }
         ensures empty { filled self.new ≡ [] }
     {
         self.len = 0;
@@ -29,8 +28,7 @@ impl<'a, T: Copy> Row<'a, T> {
 
     // Puts an entry behind the others, where there is room.
     pub(crate) fn push(&mut self, entry: T)
-        ensures same_slice { self.new.entries.ghost_name ≡ self.old.entries.ghost_name }
-        ensures room { room self.new ≡ room self.old }
+        ensures loan { KeepsLoan self.old self.new }
         ensures filled { length (filled self.old) < room self.old → filled self.new ≡ filled self.old ++ (entry ∷ []) }
     {
         if self.len < self.entries.len() {
@@ -42,8 +40,7 @@ impl<'a, T: Copy> Row<'a, T> {
     // Puts entries behind the others.
     pub(crate) fn extend_from_slice(&mut self, entries: &[T])
         requires { length (filled self.old) + length entries.now ≤ room self.old }
-        ensures same_slice { self.new.entries.ghost_name ≡ self.old.entries.ghost_name }
-        ensures room { room self.new ≡ room self.old }
+        ensures loan { KeepsLoan self.old self.new }
         ensures filled { filled self.new ≡ filled self.old ++ entries.now }
     {
         let next = self.len + entries.len();

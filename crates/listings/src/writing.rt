@@ -3,7 +3,7 @@ ghost use Rattle.model.specs.Diagrams.{listed};
 ghost use Rattle.model.specs.Listings.{bytes, node_bytes, line_reference};
 ghost use Rattle.model.specs.Lists.{each, flat};
 ghost use Rattle.listings.specs.Labels.{relabel, labelled, head};
-ghost use Rattle.listings.specs.Rows.{filled, room};
+ghost use Rattle.listings.specs.Rows.{filled, room, KeepsLoan};
 
 use crate::fronts::number_in;
 use crate::labels::{line_bytes, node_bytes, relabel_line, relabel_node, used_bytes};
@@ -17,8 +17,7 @@ fn put_head(out: &mut Row<u8>, pins: &[u8], order: &[u32])
     requires few { length pins.now ≤ 20 }
     requires short { length order.now ≤ 4096 }
     requires fits { length (filled out.old) + 8 + length pins.now ≤ room out.old }
-    ensures same_slice { out.new.entries.ghost_name ≡ out.old.entries.ghost_name }
-    ensures room { room out.new ≡ room out.old }
+    ensures loan { KeepsLoan out.old out.new }
     ensures written { filled out.new ≡ filled out.old ++ head pins.now (length order.now) }
 {
     out.extend_from_slice(b"LST\x00\x01");
@@ -31,8 +30,7 @@ fn put_head(out: &mut Row<u8>, pins: &[u8], order: &[u32])
 // Apart from `put_lines`: one function for both takes a closure that answers `[u8; N]`, and a bound `Fn` that names a const parameter gets no proof.
 fn put_nodes(out: &mut Row<u8>, nodes: &[Node], order: &[u32], numbers: &[u32])
     requires { length (filled out.old) + 7 * length order.now ≤ room out.old }
-    ensures same_slice { out.new.entries.ghost_name ≡ out.old.entries.ghost_name }
-    ensures room { room out.new ≡ room out.old }
+    ensures loan { KeepsLoan out.old out.new }
     ensures written { filled out.new ≡ filled out.old ++ flat node_bytes (labelled (listed nodes.now) order.now numbers.now []).nodes }
 {
     for entry in order {
@@ -44,8 +42,7 @@ fn put_nodes(out: &mut Row<u8>, nodes: &[Node], order: &[u32], numbers: &[u32])
 // Writes the references of lines, under the numbers of nodes.
 fn put_lines(out: &mut Row<u8>, numbers: &[u32], lines: &[Line])
     requires { length (filled out.old) + 3 * length lines.now ≤ room out.old }
-    ensures same_slice { out.new.entries.ghost_name ≡ out.old.entries.ghost_name }
-    ensures room { room out.new ≡ room out.old }
+    ensures loan { KeepsLoan out.old out.new }
     ensures written { filled out.new ≡ filled out.old ++ flat line_reference (map (each (relabel numbers.now)) lines.now) }
 {
     for line in lines {

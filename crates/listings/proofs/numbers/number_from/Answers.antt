@@ -3,12 +3,13 @@ use Rattle.model.specs.Diagrams.{listed}
 use Rattle.listings.specs.Fronts.{PicksAll}
 use Rattle.listings.specs.Rows.{filled, room}
 use Rattle.listings.specs.Numbers.{NumbersFrom}
+use Rattle.listings.proofs.Loans.{kept_on}
 use Rattle.listings.proofs.Numbering.{numbers_none, numbers_place}
 use Rattle.listings.proofs.numbers.number_from.Goals as goal
 
 pub loop-place-preserved : goal.loop-place-preserved
 loop-place-preserved c = record {
-  places = c.pick_all.ensures.room ∙ c.loop-place.invariant.places;
+  loan = kept_on c.loop-place.invariant.loan c.pick_all.ensures.loan;
   numbers = λ same wide.
       let nodes = c.args.nodes.now in
       let n = c.args.pins in
@@ -19,8 +20,8 @@ loop-place-preserved c = record {
       let before = filled c.loop-place.order in
       let after = filled c.pick_all.new.order in
       let i = c.loop-place.invariant.numbers same wide in
-      let picks = subst (λ (r : ℕ). PicksAll (listed nodes) d here r before after) c.loop-place.invariant.places c.pick_all.ensures.picks in (
-        ap room c.swap.ensures.x_after ∙ (c.advance.ensures.room ∙ i.1),
+      let picks = subst (λ (r : ℕ). PicksAll (listed nodes) d here r before after) c.loop-place.invariant.loan.room c.pick_all.ensures.picks in (
+        ap room c.swap.ensures.x_after ∙ (c.advance.ensures.loan.room ∙ i.1),
         ap room c.swap.ensures.y_after ∙ i.0,
         λ order rest. i.2 order
             (subst (λ (is : List ℕ). NumbersFrom n nodes d is rows places before order) c.filled-here.ensures

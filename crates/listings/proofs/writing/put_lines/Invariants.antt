@@ -1,14 +1,12 @@
-use Rattle.std.proofs.Common.{◌≡◌}
 use Rattle.model.specs.Listings.{line_reference}
 use Rattle.model.specs.Lists.{each}
 use Rattle.listings.specs.Labels.{relabel}
-use Rattle.listings.specs.Rows.{filled, room}
+use Rattle.listings.specs.Rows.{filled, KeepsLoan}
 use Rattle.listings.proofs.Written.{WrittenSoFar}
 use Rattle.listings.proofs.writing.put_lines.Given as goal
 
 abbrev pub invariant-loop-line : goal.invariant-loop-line
 invariant-loop-line l = record {
-  same_slice : l.out.entries.ghost_name ≡ l.fn.out.entries.ghost_name;
-  room : room l.out ≡ room l.fn.out;
+  loan : KeepsLoan l.fn.out l.out;
   written : WrittenSoFar line_reference (each (relabel l.numbers)) l.lines l.line-index (filled l.fn.out) (filled l.out);
 }
