@@ -1,48 +1,51 @@
 // Branches, nodes and lines under the numbers of a listing, and their bytes.
-ghost use Rattle.std.specs.Prelude.{◌≡◌, ◌≤◌, length};
+ghost use Rattle.std.specs.Prelude.{◌≡◌, length};
 ghost use Rattle.model.specs.Lists.{each};
 ghost use Rattle.model.specs.Listings.{two_bytes, reference, line_reference, node_bytes};
 ghost use Rattle.listings.specs.Labels.{relabel, relabelled};
 
 use crate::fronts::number_in;
+use crate::numbers::Numbering;
 use model::{Branch, Node};
 use tables::line::Line;
 
-fn relabel_branch(numbers: &[u32], branch: Branch) -> Branch
-    ensures { result ≡ relabel numbers.now branch }
-{
-    match branch {
-        Branch::End(_) => branch,
-        Branch::Node(i) => {
-            let number = numbers.get(usize::from(i)).copied().unwrap_or(0);
-            Branch::Node(number_in(number))
+impl<'a> Numbering<'a> {
+    fn relabel_branch(self, branch: Branch) -> Branch
+        ensures { result ≡ relabel self.entry.numbers.now branch }
+    {
+        match branch {
+            Branch::End(_) => branch,
+            Branch::Node(i) => {
+                let number = self.numbers.get(usize::from(i)).copied().unwrap_or(0);
+                Branch::Node(number_in(number))
+            }
         }
     }
-}
 
-pub(crate) fn relabel_node(numbers: &[u32], node: Node) -> Node
-    ensures { result ≡ relabelled numbers.now node }
-{
-    Node {
-        place: node.place,
-        low: relabel_branch(numbers, node.low),
-        high: relabel_branch(numbers, node.high),
+    pub(crate) fn relabel_node(self, node: Node) -> Node
+        ensures { result ≡ relabelled self.entry.numbers.now node }
+    {
+        Node {
+            place: node.place,
+            low: self.relabel_branch(node.low),
+            high: self.relabel_branch(node.high),
+        }
     }
-}
 
-pub(crate) fn relabel_line(numbers: &[u32], line: Line) -> Line
-    ensures { result ≡ each (relabel numbers.now) line }
-{
-    line.map(|branch| relabel_branch(numbers, branch))
-}
+    // By `?`: of a `map` whose closure holds `self` the check does not learn enough.
+    pub(crate) fn relabel_line(self, line: Line) -> Line
+        ensures { result ≡ each (relabel self.entry.numbers.now) line }
+    {
+        Some(self.relabel_branch(line?))
+    }
 
-// The used number in two bytes, the higher first.
-pub(crate) fn used_bytes(order: &[u32]) -> [u8; 2]
-    requires { length order.now ≤ 4096 }
-    ensures { result ≡ two_bytes (length order.now) }
-{
-    let used = order.len() as u16;
-    used.to_be_bytes()
+    // The used number in two bytes, the higher first.
+    pub(crate) fn used_bytes(self) -> [u8; 2]
+        ensures { result ≡ two_bytes (length self.entry.order.now) }
+    {
+        let used = self.order.len() as u16;
+        used.to_be_bytes()
+    }
 }
 
 // A reference: 0 and an end code, or 1 and a node number.

@@ -29,11 +29,11 @@ pub fn list_lines(
     if pin_count > 20 {
         return Err(Ground::OrderLength.at(pin_count));
     }
-    let (order, numbers) = number_nodes(nodes, work, pin_count as u8, lines);
-    let needed = listing_length(pin_count, order.len());
+    let numbering = number_nodes(nodes, work, pin_count as u8, lines);
+    let needed = listing_length(pin_count, numbering.order.len());
     if buffer.len() < needed {
         return Err(Ground::Buffer.at(needed));
     }
-    write_listing(&mut buffer[..needed], pins, nodes, order, numbers, lines);
+    write_listing(&mut buffer[..needed], pins, nodes, numbering, lines);
     Ok(needed)
 }

@@ -9,6 +9,14 @@ use std::mem::swap;
 use tables::indexing::MOST_NODES;
 use tables::line::Line;
 
+// The nodes that lines reach in the order of a listing, and the number of each node.
+#[derive(Clone, Copy)]
+pub(crate) struct Numbering<'a> {
+    pub(crate) order: &'a [u32],
+    pub(crate) numbers: &'a [u32],
+    ghost few: { length order.now ≤ 4096 },
+}
+
 // Numbers what is reached from a front, place by place. The two rows change parts from place to place.
 fn number_from<'a>(
     nodes: &[Node],
@@ -43,19 +51,21 @@ fn invert(order: &[u32], numbers: &mut [u32])
     }
 }
 
-// The nodes that lines reach in the order of a listing, and the number of each node, both cut out of the work.
+// Numbers the nodes that lines reach, in parts of the work.
 pub(crate) fn number_nodes<'a>(
     nodes: &[Node],
     work: &'a mut [u32],
     pins: u8,
     lines: &[Line],
-) -> (&'a mut [u32], &'a mut [u32])
-    ensures few { length result.0.now ≤ 4096 }
-    ensures numbers { Numbers pins nodes.now work.old lines.now result.0.now result.1.now }
+) -> Numbering<'a>
+    ensures { Numbers pins nodes.now work.old lines.now result.order.now result.numbers.now }
 {
     let len = nodes.len();
     if len > MOST_NODES || work.len() < 4 * len {
-        return (&mut [], &mut []);
+        return Numbering {
+            order: &[],
+            numbers: &[],
+        };
     }
     let (order, rest) = work.split_at_mut(len);
     let (numbers, rest) = rest.split_at_mut(len);
@@ -68,5 +78,5 @@ pub(crate) fn number_nodes<'a>(
     number_from(nodes, &mut front, &mut ahead, numbers, &mut order, pins);
     let order = order.into_filled();
     invert(order, numbers);
-    (order, numbers)
+    Numbering { order, numbers }
 }

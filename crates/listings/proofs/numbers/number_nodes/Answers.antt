@@ -3,8 +3,8 @@ use Rattle.listings.specs.Rows.{filled, room}
 use Rattle.listings.proofs.Numbering.{numbers_lines, numbered_nodes}
 use Rattle.listings.proofs.numbers.number_nodes.Goals as goal
 
-pub returns-clause-numbers : goal.returns-clause-numbers
-returns-clause-numbers c = λ us dg f few enough.
+pub returns : goal.returns
+returns c = λ us dg f few enough.
     let nodes = c.args.nodes.now in
     let lines = c.args.lines.now in
     let order = c.into_filled-order.result.now in

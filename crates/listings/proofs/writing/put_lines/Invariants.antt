@@ -8,5 +8,5 @@ use Rattle.listings.proofs.writing.put_lines.Given as goal
 abbrev pub invariant-loop-line : goal.invariant-loop-line
 invariant-loop-line l = record {
   loan : KeepsLoan l.fn.out l.out;
-  written : WrittenSoFar line_reference (each (relabel l.numbers)) l.lines l.line-index (filled l.fn.out) (filled l.out);
+  written : WrittenSoFar line_reference (each (relabel l.numbering.numbers.now)) l.lines l.line-index (filled l.fn.out) (filled l.out);
 }

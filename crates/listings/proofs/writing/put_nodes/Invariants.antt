@@ -8,5 +8,5 @@ use Rattle.listings.proofs.writing.put_nodes.Given as goal
 abbrev pub invariant-loop-entry : goal.invariant-loop-entry
 invariant-loop-entry l = record {
   loan : KeepsLoan l.fn.out l.out;
-  written : WrittenSoFar node_bytes (λ i. relabelled l.numbers (listed l.nodes (short i))) l.order l.entry-index (filled l.fn.out) (filled l.out);
+  written : WrittenSoFar node_bytes (λ i. relabelled l.numbering.numbers.now (listed l.nodes (short i))) l.numbering.order.now l.entry-index (filled l.fn.out) (filled l.out);
 }
