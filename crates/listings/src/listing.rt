@@ -1,18 +1,17 @@
 ghost use Rattle.std.specs.Prelude.{◌≡◌, ◌+◌, ◌*◌, ◌≤◌, length};
 ghost use Rattle.listings.specs.Lists.{ListsLines};
 
-use crate::numbers::number_nodes;
-use crate::writing::write_listing;
+use crate::numbers::{Numbering, number_nodes};
+use crate::writing::{Pins, write_listing};
 use faults::fault::{Fault, Ground};
 use model::Node;
 use tables::line::Line;
 
 // How long a listing of 32 lines is.
-fn listing_length(pins: usize, nodes: usize) -> usize
-    requires { (pins ≤ 20) × (nodes ≤ 4096) }
-    ensures { result ≡ 104 + pins + 7 * nodes }
+fn listing_length(pins: Pins, numbering: Numbering) -> usize
+    ensures { result ≡ 104 + length pins.entry.order.now + 7 * length numbering.entry.order.now }
 {
-    104 + pins + 7 * nodes
+    104 + pins.order.len() + 7 * numbering.order.len()
 }
 
 // Writes the listing of 32 lines at the front of a buffer, and tells its length.
@@ -29,8 +28,9 @@ pub fn list_lines(
     if pin_count > 20 {
         return Err(Ground::OrderLength.at(pin_count));
     }
+    let pins = Pins { order: pins };
     let numbering = number_nodes(nodes, work, pin_count as u8, lines);
-    let needed = listing_length(pin_count, numbering.order.len());
+    let needed = listing_length(pins, numbering);
     if buffer.len() < needed {
         return Err(Ground::Buffer.at(needed));
     }

@@ -13,16 +13,22 @@ use model::Node;
 use tables::line::Line;
 use tables::reading::node_at;
 
+// The pins of a listing, in their order.
+#[derive(Clone, Copy)]
+pub(crate) struct Pins<'a> {
+    pub(crate) order: &'a [u8],
+    ghost few: { length order.now ≤ 20 },
+}
+
 // Writes what stands before the nodes: the mark LST, version 1, the pins, the order and the used number.
-fn put_head(out: &mut Row<u8>, pins: &[u8], numbering: Numbering)
-    requires few { length pins.now ≤ 20 }
-    requires fits { length (filled out.old) + 8 + length pins.now ≤ room out.old }
+fn put_head(out: &mut Row<u8>, pins: Pins, numbering: Numbering)
+    requires { length (filled out.old) + 8 + length pins.order.now ≤ room out.old }
     ensures loan { KeepsLoan out.old out.new }
-    ensures written { filled out.new ≡ filled out.old ++ head pins.now (length numbering.entry.order.now) }
+    ensures written { filled out.new ≡ filled out.old ++ head pins.entry.order.now (length numbering.entry.order.now) }
 {
     out.extend_from_slice(b"LST\x00\x01");
-    out.push(pins.len() as u8);
-    out.extend_from_slice(pins);
+    out.push(pins.order.len() as u8);
+    out.extend_from_slice(pins.order);
     out.extend_from_slice(&numbering.used_bytes());
 }
 
@@ -53,14 +59,13 @@ fn put_lines(out: &mut Row<u8>, numbering: Numbering, lines: &[Line])
 // Writes the whole listing into a room of just its length.
 pub(crate) fn write_listing(
     room: &mut [u8],
-    pins: &[u8],
+    pins: Pins,
     nodes: &[Node],
     numbering: Numbering,
     lines: &[Line],
 )
-    requires few { length pins.now ≤ 20 }
-    requires fits { length room.old ≡ 8 + length pins.now + 7 * length numbering.order.now + 3 * length lines.now }
-    ensures { room.new ≡ bytes pins.now (labelled (listed nodes.now) numbering.entry.order.now numbering.entry.numbers.now lines.now) }
+    requires { length room.old ≡ 8 + length pins.order.now + 7 * length numbering.order.now + 3 * length lines.now }
+    ensures { room.new ≡ bytes pins.entry.order.now (labelled (listed nodes.now) numbering.entry.order.now numbering.entry.numbers.now lines.now) }
 {
     let mut out = Row::over(room);
     put_head(&mut out, pins, numbering);
