@@ -1,6 +1,6 @@
 -- Bytes written one behind the other.
 use Rattle.std.proofs.Common.{◌≡◌, ℕ, ◌+◌, ◌*◌, ◌≤◌, List, [], ◌∷◌, ◌++◌, map, length, take, Some, None, Option, sym, refl, ap, ◌∙◌, mul-suc, arith, length-append, take_all}
-use Rattle.std.proofs.lemmas.List.{append-nil, append_assoc, length-map, length-take-le}
+use Rattle.std.proofs.lemmas.List.{append_assoc, length-map, length-take-le}
 use Rattle.model.specs.declared.Branch.{Branch}
 use Rattle.model.specs.declared.Branch.TheVariants.{End as end, Node as node}
 use Rattle.model.specs.declared.Node.{Node}
@@ -8,10 +8,6 @@ use Rattle.model.specs.Lists.{flat, each}
 use Rattle.model.specs.Diagrams.{Table}
 use Rattle.model.specs.Listings.{two_bytes, reference, line_reference, node_bytes, bytes}
 use Rattle.listings.specs.Labels.{short, relabel, relabelled, labelled, head}
-
-flat_push : {X : Type 0} (g : X → List ℕ) (xs : List X) (x : X) → flat g (xs ++ (x ∷ [])) ≡ flat g xs ++ g x
-flat_push g [] x = append-nil (g x)
-flat_push g (y ∷ ys) x = ap (λ z. g y ++ z) (flat_push g ys x) ∙ sym (append_assoc (g y) (flat g ys) (g x))
 
 flat_length : {X : Type 0} (g : X → List ℕ) (m : ℕ) → ((x : X) → length (g x) ≡ m) → (xs : List X) → length (flat g xs) ≡ m * length xs
 flat_length g m h [] = omega arith

@@ -57,6 +57,7 @@ fn put_lines(out: &mut Row<u8>, numbering: Numbering, lines: &[Line])
 }
 
 // Writes the whole listing into a room of just its length.
+// No struct of all that is read: `list_lines` gets each part at a lifetime of its own, and the struct would have to name all four.
 pub(crate) fn write_listing(
     room: &mut [u8],
     pins: Pins,
