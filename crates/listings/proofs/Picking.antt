@@ -48,8 +48,5 @@ one_picked T d front k room room₁ order order₁ order₂ less same picks far 
     let q = picks (λ x n. elim n [ inl z ↦ subst (λ (y : ℕ). y < 65536) (sym z) (short i (in_get_or front k less)) | inr z ↦ absurd z ]) (omega arith) in
     q ∙ (ap (λ l. l ++ keep p (i ∷ [])) w ∙ (append_assoc order (keep p (take k front)) (keep p (i ∷ [])) ∙ ap (λ l. order ++ l) (sym step)))
 
-pub none_picked : (T : Table) (d : ℕ) (front : List ℕ) (room : ℕ) (order : List ℕ) → PickedSoFar T d front 0 room order order
-none_picked T d front room order short enough = sym (append-nil order)
-
 pub all_picked : (T : Table) (d : ℕ) (front : List ℕ) (k : ℕ) → length front ≤ k → (room : ℕ) (order order' : List ℕ) → PickedSoFar T d front k room order order' → PicksAll T d front room order order'
 all_picked T d front k all room order order' far short enough = far short enough ∙ ap (λ xs. order ++ keep (asks T d) xs) (take_all k front all)

@@ -1,10 +1,5 @@
-use Rattle.std.proofs.Common.{length}
-use Rattle.listings.proofs.Listed.{too_many_pins, buffer_short, buffer_written}
+use Rattle.listings.proofs.Listed.{buffer_short, buffer_written}
 use Rattle.listings.proofs.listing.list_lines.Goals as goal
-
-pub returns-then-pin_count-gt20 : goal.returns-then-pin_count-gt20
-returns-then-pin_count-gt20 c =
-    too_many_pins c.args.nodes.now (length c.args.work.now) c.args.pins.now c.args.lines.now c.args.buffer.now c.at.result c.at.ensures c.if-pin_count-gt20.true
 
 pub returns-then-buffer-needed : goal.returns-then-buffer-needed
 returns-then-buffer-needed c =
