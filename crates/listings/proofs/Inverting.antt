@@ -1,12 +1,11 @@
 -- The number of each node, written at its own entry.
-use Rattle.std.proofs.Common.{◌≡◌, ℕ, zero, suc, ◌+◌, ◌<◌, ◌≤◌, Bool, true, false, cond, eqb, List, [], ◌∷◌, length, get_or, take, set, sym, refl, ap, ◌∙◌, subst, inl, inr, arith, take_all}
+use Rattle.std.proofs.Common.{◌≡◌, ℕ, zero, suc, ◌+◌, ◌<◌, ◌≤◌, Bool, true, false, cond, eqb, List, [], ◌∷◌, length, get_or, take, set, sym, refl, ap, ◌∙◌, subst, inl, inr, arith}
 use Rattle.std.proofs.lemmas.List.{get_or-set_same, get_or-set_other, take_more}
 use Rattle.std.proofs.lemmas.Bool.{eq-eqb}
 use Rattle.model.specs.Lists.{In, Apart, spot}
 use Rattle.model.proofs.Lists.{in-++, in_cast}
 use Rattle.model.proofs.Onces.{tells_eqb, tells_ne}
 use Rattle.tables.proofs.Walks.{in_get_or}
-use Rattle.listings.specs.Numbers.{Inverts}
 
 spot_at : (xs : List ℕ) (k : ℕ) → Apart xs → k < length xs → spot eqb xs (get_or xs k 0) ≡ k
 spot_at [] k a l = absurd (omega arith)
@@ -54,9 +53,3 @@ module _ (order : List ℕ) (long k : ℕ) (less : k < length order) (numbers : 
 
   pub entry_outside : length numbers ≤ get_or order k 0 → InvertedSoFar order long (k + 1) numbers
   entry_outside l apart small = let s = small (get_or order k 0) (in_get_or order k less) in absurd (omega arith)
-
-pub inverted_none : (order : List ℕ) (long : ℕ) (numbers : List ℕ) → InvertedSoFar order long 0 numbers
-inverted_none order long numbers apart small i m = absurd m
-
-pub inverted_all : (order numbers : List ℕ) (k : ℕ) → length order ≤ k → (numbers' : List ℕ) → InvertedSoFar order (length numbers) k numbers' → Inverts order numbers numbers'
-inverted_all order numbers k all numbers' far apart small i m = far apart small i (subst (λ (xs : List ℕ). In i xs) (sym (take_all k order all)) m)

@@ -1,5 +1,5 @@
 -- Fronts that grow by several nodes.
-use Rattle.std.proofs.Common.{None, Some, Option, ◌≡◌, ℕ, zero, suc, ◌+◌, ◌<◌, ◌≤◌, Bool, true, false, cond, not, eqb, List, [], ◌∷◌, ◌++◌, length, get_or, take, replicate, sym, refl, ap, ◌∙◌, subst, ap₂, arith, take_all}
+use Rattle.std.proofs.Common.{None, Some, Option, ◌≡◌, ℕ, ◌+◌, ◌<◌, Bool, true, false, cond, not, eqb, List, [], ◌∷◌, ◌++◌, length, get_or, take, sym, refl, ap, ◌∙◌, subst, ap₂}
 use Rattle.std.proofs.lemmas.List.{append-nil, append_assoc, take_more}
 use Rattle.model.specs.declared.Branch.{Branch}
 use Rattle.model.specs.declared.Branch.TheVariants.{End as end, Node as node}
@@ -8,7 +8,7 @@ use Rattle.model.specs.Diagrams.{Table, next}
 use Rattle.model.proofs.Onces.{tells_eqb, keep_swap, keep_twice}
 use Rattle.tables.proofs.Marks.{root_held}
 use Rattle.tables.proofs.Walks.{in_get_or}
-use Rattle.listings.specs.Fronts.{nodes_of, leads, Small, Grown, Meets, MeetsBoth, MeetsLines, LeadsInside, AllShort, Advances}
+use Rattle.listings.specs.Fronts.{nodes_of, leads, Small, Grown, Meets, MeetsBoth, LeadsInside, AllShort}
 
 without_once : (x : ℕ) (zs ys : List ℕ) → without eqb x (once eqb (without eqb x zs ++ ys)) ≡ without eqb x (once eqb (zs ++ ys))
 without_once x [] ys = refl
@@ -41,22 +41,6 @@ grown_more size xs ys zs is seen is' seen' g h = record {
   front = h.front;
   holds = h.holds ∙ (ap (λ l. once eqb (l ++ zs)) g.holds ∙ (once_again (xs ++ ys) zs ∙ ap (once eqb) (append_assoc xs ys zs)));
 }
-
-cleared : (n i : ℕ) → ◌≡◌ {A = ℕ} (get_or (replicate n 0) i 0) 0
-cleared zero i = refl
-cleared (suc n) zero = refl
-cleared (suc n) (suc i) = cleared n i
-
--- the empty front
-pub grown_none : (size n : ℕ) (is seen : List ℕ) → is ≡ [] → seen ≡ replicate n 0 → length seen ≡ size → Grown size [] [] is seen
-grown_none size n is seen none e wide = subst (λ (xs : List ℕ). Grown size [] [] xs seen) (sym none) (record {
-  front = record {
-    wide = wide;
-    apart = tt;
-    marked = λ i. (λ m. absurd m, λ l. let z : get_or seen i 0 ≡ 0 = ap (λ xs. get_or xs i 0) e ∙ cleared n i in absurd (omega arith));
-  };
-  holds = refl;
-})
 
 two_branches : (b e : Branch) → nodes_of (b ∷ (e ∷ [])) ≡ nodes_of (b ∷ []) ++ nodes_of (e ∷ [])
 two_branches (end c) e = refl
@@ -93,10 +77,6 @@ one_further T d front k i size size₁ is seen is' seen' less numbered same same
     (ap (λ x. flat (leads T d) (take k front) ++ leads T d x) e ∙ (sym (flat_push (leads T d) (take k front) (get_or front k 0)) ∙ ap (flat (leads T d)) (sym (take_more front k 0 less))))
     (grown_more size [] (flat (leads T d) (take k front)) (leads T d i) is seen is' seen' g h)
 
--- the whole front was gone through
-pub front_done : (T : Table) (d : ℕ) (front : List ℕ) (k : ℕ) → length front ≤ k → (size : ℕ) (is seen : List ℕ) → SoFar T d front k size is seen → Advances T d front size is seen
-front_done T d front k all size is seen far wide short leading = subst (λ (xs : List ℕ). Grown size [] (flat (leads T d) xs) is seen) (take_all k front all) (far wide short leading)
-
 -- the front of lines, as far as they were gone through
 abbrev pub LinesSoFar : List (Option Branch) → ℕ → ℕ → List ℕ → List ℕ → Type 0
 LinesSoFar lines k size is seen = length seen ≡ size → ((b : Branch) → In b (held lines) → Small size b) → Grown size [] (nodes_of (held (take k lines))) is seen
@@ -121,7 +101,3 @@ module _ (lines : List (Option Branch)) (k : ℕ) (less : k < length lines) (siz
       let meets' = subst (λ (x : ℕ). Meets x is seen b is' seen') same meets in
       let h = meets' g.front (small b (root_held lines k b less e)) in
       subst (λ (xs : List ℕ). Grown size [] xs is' seen') (sym (one_more (Some b) e)) (grown_more size [] (nodes_of (held (take k lines))) (nodes_of (b ∷ [])) is seen is' seen' g h)
-
--- all lines were gone through
-pub lines_met : (lines : List (Option Branch)) (k : ℕ) → length lines ≤ k → (size : ℕ) (is seen : List ℕ) → LinesSoFar lines k size is seen → MeetsLines lines size is seen
-lines_met lines k all size is seen far wide small = subst (λ (ls : List (Option Branch)). Grown size [] (nodes_of (held ls)) is seen) (take_all k lines all) (far wide small)

@@ -2,7 +2,7 @@
 use Rattle.std.proofs.Common.{◌≡◌, ℕ, ◌+◌, ◌*◌, ◌<◌, ◌≤◌, List, [], ◌++◌, map, length, drop, Ok, Err, Option, sym, refl, ap, ◌∙◌, arith, length-append}
 use Rattle.std.proofs.lemmas.List.{drop_at}
 use Rattle.faults.specs.declared.fault.Fault.{Fault}
-use Rattle.faults.specs.declared.fault.Ground.TheVariants.{OrderLength, Buffer}
+use Rattle.faults.specs.declared.fault.Ground.TheVariants.{Buffer}
 use Rattle.faults.specs.Refusals.{at}
 use Rattle.model.specs.declared.Branch.{Branch}
 use Rattle.model.specs.declared.Node.{Node}
@@ -27,15 +27,6 @@ labelled_length pins T order numbers lines all =
     let c = length-append ns ls in
     let d = length-append pins (two_bytes (length (labelled T order numbers []).nodes) ++ (ns ++ ls)) in
     omega arith
-
-pub too_many_pins : (nodes : List Node) (work : ℕ) (pins : List ℕ) (lines : List (Option Branch)) (buffer : List ℕ) (f : Fault) → f ≡ at OrderLength (length pins) → 20 < length pins
-    → ListsLines nodes work pins lines buffer (Err f) buffer
-too_many_pins nodes work pins lines buffer f e many = record {
-  turned = λ h. ap Err e;
-  lists = λ us dg from few room le. absurd (omega arith);
-  past = λ k z. let y : ◌≡◌ {A = ℕ} 0 1 = cc in absurd (omega arith);
-  kept = λ g z. refl;
-}
 
 module _ (nodes : List Node) (work pins order numbers : List ℕ) (lines : List (Option Branch)) (buffer : List ℕ) (all : length lines ≡ 32) (few_pins : length pins ≤ 20)
     (numbered : Numbers (length pins) nodes work lines order numbers) where

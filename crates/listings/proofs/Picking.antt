@@ -1,10 +1,10 @@
 -- Putting the nodes of a front that ask a pin behind those that have numbers.
-use Rattle.std.proofs.Common.{◌≡◌, ℕ, ◌+◌, ◌<◌, ◌≤◌, Bool, true, false, cond, List, [], ◌∷◌, ◌++◌, length, get_or, take, drop, sym, refl, ap, ◌∙◌, subst, inl, inr, arith, length-append, take_all}
+use Rattle.std.proofs.Common.{◌≡◌, ℕ, ◌+◌, ◌<◌, ◌≤◌, Bool, true, false, cond, List, [], ◌∷◌, ◌++◌, length, get_or, take, drop, sym, refl, ap, ◌∙◌, subst, inl, inr, arith, length-append}
 use Rattle.std.proofs.lemmas.List.{append-nil, append_assoc, take_more, take-append-drop}
 use Rattle.model.specs.Lists.{keep}
 use Rattle.model.specs.Diagrams.{Table}
 use Rattle.model.proofs.Onces.{keep-++}
-use Rattle.listings.specs.Fronts.{asks, AllShort, Picks, PicksAll}
+use Rattle.listings.specs.Fronts.{asks, AllShort, Picks}
 use Rattle.listings.specs.Labels.{short}
 use Rattle.listings.proofs.Shortening.{short_is}
 use Rattle.tables.proofs.Walks.{in_get_or}
@@ -47,6 +47,3 @@ one_picked T d front k room room₁ order order₁ order₂ less same picks far 
     let t = length-append (keep p (take k front)) (keep p (i ∷ [])) in
     let q = picks (λ x n. elim n [ inl z ↦ subst (λ (y : ℕ). y < 65536) (sym z) (short i (in_get_or front k less)) | inr z ↦ absurd z ]) (omega arith) in
     q ∙ (ap (λ l. l ++ keep p (i ∷ [])) w ∙ (append_assoc order (keep p (take k front)) (keep p (i ∷ [])) ∙ ap (λ l. order ++ l) (sym step)))
-
-pub all_picked : (T : Table) (d : ℕ) (front : List ℕ) (k : ℕ) → length front ≤ k → (room : ℕ) (order order' : List ℕ) → PickedSoFar T d front k room order order' → PicksAll T d front room order order'
-all_picked T d front k all room order order' far short enough = far short enough ∙ ap (λ xs. order ++ keep (asks T d) xs) (take_all k front all)
