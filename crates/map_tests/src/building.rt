@@ -14,7 +14,17 @@ pub fn verdict(heap: Global, bytes: &[u8], format: Format) -> Result<String, All
 
 // A switch file of bits, first end 0, with switches at these addresses.
 pub fn bit_map(heap: Global, pins: u8, switches: &[u32]) -> Result<Vec<u8>, AllocError> {
-    let mut file = header(heap, 0, pins, 0, switches.len())?;
+    bit_map_from(heap, pins, 0, switches)
+}
+
+// The same with a first end.
+pub fn bit_map_from(
+    heap: Global,
+    pins: u8,
+    first: u8,
+    switches: &[u32],
+) -> Result<Vec<u8>, AllocError> {
+    let mut file = header(heap, 0, pins, first, switches.len())?;
     for address in switches {
         push_address(&mut file, *address)?;
     }

@@ -7,3 +7,5 @@ mod checking;
 mod limits;
 #[cfg(test)]
 mod refusals;
+pub mod samples;
+pub mod truth;

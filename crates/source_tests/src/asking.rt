@@ -1,7 +1,6 @@
 // What a source says of its blocks, and what a truth table says of them.
 ghost use Rattle.std.specs.Prelude.{◌≤◌};
 
-use crate::tables::code_at;
 use ends::end::End;
 use sources::block::Block;
 use sources::source::{Answer, Source};
@@ -32,14 +31,14 @@ fn and_one_more(told: Answer<u16>, code: u16) -> Answer<u16> {
 fn true_of(codes: &[u16], pins: u32, block: Block) -> Asked
     requires { pins ≤ 20 }
 {
-    let mut told = Answer::Outside;
-    if block.level <= pins {
-        for address in 0..1u32 << pins {
-            if address >> (pins - block.level) == block.number {
-                told = and_one_more(told, code_at(codes, address as usize));
-            }
-        }
-    }
+    let told = match pins.checked_sub(block.level) {
+        Some(below) => codes
+            .iter()
+            .zip(0..1u32 << pins)
+            .filter(|(_, address)| address >> below == block.number)
+            .fold(Answer::Outside, |told, (code, _)| and_one_more(told, *code)),
+        None => Answer::Outside,
+    };
     Asked { block, told }
 }
 

@@ -1,4 +1,4 @@
-// Layers over layers, over every bit file of 2 pins.
+// Layers over layers, over every bit file of 2 pins. Each check writes its layers out, since they differ in type.
 use crate::asking::check_source;
 use crate::samples::{Sample, bits};
 use crate::tables::{Table, flipped, inverted, mounted};

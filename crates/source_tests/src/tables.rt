@@ -1,29 +1,13 @@
-// Truth tables: the code of each address. A map of fewer than 5 pins has the first ones.
-ghost use Rattle.std.specs.Prelude.{◌≤◌, ◌<◌};
+// What layers make of truth tables.
+ghost use Rattle.std.specs.Prelude.{◌≤◌};
 
+use map_tests::truth::{self, code_at};
 use std::array;
 
-pub type Table = [u16; 32];
+pub type Table = truth::Table<32>;
 
 // Idle, chip 1, chip 2, and the last chip with the most waits.
 pub const SETTINGS: [u16; 4] = [0, 8, 16, 127];
-
-// No kind's code.
-pub const NO_CODE: u16 = u16::MAX;
-
-pub fn code_at(codes: &[u16], address: usize) -> u16 {
-    codes.get(address).copied().unwrap_or(NO_CODE)
-}
-
-// The bits of a pattern, lowest first.
-pub fn bit_table(pattern: u64) -> Table {
-    array::from_fn(|address| (pattern >> (address % 32) & 1) as u16)
-}
-
-// Two bits of a pattern for each setting, lowest first.
-pub fn setting_table(pattern: u64) -> Table {
-    array::from_fn(|address| code_at(&SETTINGS, (pattern >> (address % 32 * 2) & 3) as usize))
-}
 
 // Every bit turned over.
 pub fn inverted(codes: &Table) -> Table {

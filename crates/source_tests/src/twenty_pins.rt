@@ -11,7 +11,6 @@ use sources::flipped::Flipped;
 use sources::inverted::Inverted;
 use sources::mounted::Mounted;
 use sources::source::{Answer, Source};
-use std::alloc::Global;
 use std::process::Abort;
 use std::test::Fail;
 
@@ -23,6 +22,12 @@ struct Step {
     low: u16,
     at: u32,
     high: u16,
+}
+
+impl Step {
+    fn new(low: u16, at: u32, high: u16) -> Step {
+        Step { low, at, high }
+    }
 }
 
 // What is true of a block of the step: where the step is at a block's first address, it is not inside.
@@ -89,11 +94,7 @@ const CHANGES: [u32; 10] = [
 #[test]
 fn files_of_bits(rt: HostRuntime) -> Result<(), Fail> {
     for at in CHANGES {
-        let step = Step {
-            low: 0,
-            at,
-            high: 1,
-        };
+        let step = Step::new(0, at, 1);
         let bytes = bit_map(rt.alloc(), 20, &[at])?;
         check_step(&rt, &BitFile::over(&bytes), step);
         let bytes = range_map(rt.alloc(), 20, &[(at, TOP)])?;
@@ -106,15 +107,7 @@ fn files_of_bits(rt: HostRuntime) -> Result<(), Fail> {
 fn files_of_settings(rt: HostRuntime) -> Result<(), Fail> {
     for at in CHANGES {
         let bytes = setting_map(rt.alloc(), 20, 127, &[(at, 8)])?;
-        check_step(
-            &rt,
-            &SettingFile::over(&bytes),
-            Step {
-                low: 127,
-                at,
-                high: 8,
-            },
-        );
+        check_step(&rt, &SettingFile::over(&bytes), Step::new(127, at, 8));
     }
     Ok(())
 }
@@ -140,35 +133,9 @@ fn check_mounted<S: Source<Of = bool>>(
 fn layers(rt: HostRuntime) -> Result<(), Fail> {
     let bytes = bit_map(rt.alloc(), 20, &[TOP])?;
     let file = BitFile::over(&bytes);
-    check_step(
-        &rt,
-        &Inverted::new(file),
-        Step {
-            low: 1,
-            at: TOP,
-            high: 0,
-        },
-    );
-    check_flipped(
-        &rt,
-        &file,
-        Step {
-            low: 1,
-            at: 1,
-            high: 0,
-        },
-    )?;
-    check_mounted(
-        &rt,
-        &file,
-        0,
-        true,
-        Step {
-            low: 0,
-            at: TOP,
-            high: 1,
-        },
-    )
+    check_step(&rt, &Inverted::new(file), Step::new(1, TOP, 0));
+    check_flipped(&rt, &file, Step::new(1, 1, 0))?;
+    check_mounted(&rt, &file, 0, true, Step::new(0, TOP, 1))
 }
 
 // One pin, mounted at the top and at the bottom of 20 pins.
@@ -176,26 +143,6 @@ fn layers(rt: HostRuntime) -> Result<(), Fail> {
 fn mounts(rt: HostRuntime) -> Result<(), Fail> {
     let bytes = bit_map(rt.alloc(), 1, &[1])?;
     let file = BitFile::over(&bytes);
-    check_mounted(
-        &rt,
-        &file,
-        TOP / 2,
-        false,
-        Step {
-            low: 0,
-            at: TOP,
-            high: 1,
-        },
-    )?;
-    check_mounted(
-        &rt,
-        &file,
-        0,
-        true,
-        Step {
-            low: 0,
-            at: 1,
-            high: 1,
-        },
-    )
+    check_mounted(&rt, &file, TOP / 2, false, Step::new(0, TOP, 1))?;
+    check_mounted(&rt, &file, 0, true, Step::new(0, 1, 1))
 }

@@ -1,0 +1,37 @@
+// Truth tables: the code of each address. A table of fewer pins repeats itself.
+ghost use Rattle.std.specs.Prelude.{◌≤◌};
+
+use std::array;
+
+pub type Table<const N: usize> = [u16; N];
+
+// No kind's code.
+pub const NO_CODE: u16 = u16::MAX;
+
+pub fn addresses(pins: usize) -> usize
+    ensures { (2 ≤ result) × (result ≤ 32) }
+{
+    match pins {
+        1 => 2,
+        2 => 4,
+        3 => 8,
+        4 => 16,
+        _ => 32,
+    }
+}
+
+pub fn code_at(codes: &[u16], address: usize) -> u16 {
+    codes.get(address).copied().unwrap_or(NO_CODE)
+}
+
+// A bit of the pattern for each address, lowest first.
+pub fn bits<const N: usize>(pins: usize, pattern: u64) -> Table<N> {
+    let count = addresses(pins);
+    array::from_fn(|address| (pattern >> (address % count) & 1) as u16)
+}
+
+// Two bits of the pattern for each address, lowest first, that pick one of four codes.
+pub fn settings<const N: usize>(four: &[u16; 4], pins: usize, pattern: u64) -> Table<N> {
+    let count = addresses(pins);
+    array::from_fn(|address| code_at(four, (pattern >> (address % count * 2) & 3) as usize))
+}
