@@ -1,8 +1,9 @@
 // A plan beside the truth tables of its lines.
 use crate::parts::count_parts;
 use crate::steps::{Step, run};
-use crate::truth::{Table, addresses, bit_of, bits, code_at, joined, settings, strapped};
+use crate::truth::{SETTINGS, Table, bit_of, joined, strapped};
 use faults::fault::Fault;
+use map_tests::truth::{addresses, bits, settings};
 use model::Node;
 use plans::open::OpenPlan;
 use std::alloc::{AllocError, Global};
@@ -60,9 +61,8 @@ fn check_line(
 ) -> Result<(), Fail> {
     let count = plan.count(nodes, work, line)?;
     assert_eq!(rt; count as usize, count_parts(rt.alloc(), &[codes], order)?);
-    for address in 0..addresses(order.len()) {
-        let code = plan.read(nodes, line, address as u32)?;
-        assert_eq!(rt; code, code_at(&codes, address));
+    for (address, code) in (0..addresses(order.len()) as u32).zip(codes) {
+        assert_eq!(rt; plan.read(nodes, line, address)?, code);
     }
     Ok(())
 }
@@ -77,12 +77,12 @@ fn check_lines(
     work: &mut [u32],
 ) -> Result<(), Fail> {
     let mut held = Vec::new(rt.alloc());
-    for a in 0..8u8 {
-        if let Some(codes) = lines[a as usize] {
-            held.push(codes)?;
-            check_line(rt, plan, order, a, codes, nodes, work)?;
-            for b in 0..8u8 {
-                if let Some(others) = lines[b as usize] {
+    for (a, line) in (0..8).zip(lines) {
+        if let Some(codes) = line {
+            held.push(*codes)?;
+            check_line(rt, plan, order, a, *codes, nodes, work)?;
+            for (b, other) in (0..8).zip(lines) {
+                if let Some(others) = other {
                     assert_eq!(rt; plan.same(a, b)?, codes == others);
                 }
             }
@@ -139,7 +139,7 @@ impl<'a> Bench<'a> {
         let pins = self.order.len();
         let (d, codes) = match step {
             Step::Bits(pattern, d) => (d, Some(bits(pins, pattern))),
-            Step::Settings(pattern, d) => (d, Some(settings(pins, pattern))),
+            Step::Settings(pattern, d) => (d, Some(settings(&SETTINGS, pins, pattern))),
             Step::Join(how, a, b, d) => {
                 let left = line_of(&self.lines, a);
                 let right = line_of(&self.lines, b);
@@ -150,10 +150,7 @@ impl<'a> Bench<'a> {
                 (d, Some(strapped(&codes, bit_of(pins, pin), high)))
             }
             Step::Erase(d) => (d, None),
-            Step::Other(_, _) => return,
-            Step::Read(_, _) => return,
-            Step::Same(_, _) => return,
-            Step::Count(_) => return,
+            Step::Other(..) | Step::Read(..) | Step::Same(..) | Step::Count(_) => return,
         };
         if let Some(line) = self.lines.get_mut(d as usize) {
             *line = codes;

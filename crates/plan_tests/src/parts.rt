@@ -1,5 +1,6 @@
 // Parts, counted by writing all of them down.
-use crate::truth::{Table, bit_of, code_at};
+use crate::truth::{Table, bit_of};
+use map_tests::truth::code_at;
 use std::alloc::{AllocError, Global};
 use std::array;
 

@@ -1,8 +1,9 @@
 // Calls on a plan, with the pattern of a truth table in place of a source.
-use crate::truth::{How, Table, addresses, bits, code_at, settings};
+use crate::truth::{How, SETTINGS};
 use ends::joining::{Both, Differ, Either, Joining, Overlay};
 use faults::fault::Fault;
-use map_tests::building::{bit_map, setting_map};
+use map_tests::samples::{bit_file, setting_file};
+use map_tests::truth::{bits, settings};
 use model::Node;
 use plans::open::OpenPlan;
 use readers::bit_file::BitFile;
@@ -10,8 +11,8 @@ use readers::setting_file::SettingFile;
 use std::alloc::{AllocError, Global};
 use trees::tree::Record;
 
-// A draw has the pattern of a table of the plan's pins, or no table but another number of pins. The line that is
-// written comes last.
+// A call as a value, so that rows of calls are tables. A draw has the pattern of a table of the plan's pins, or no
+// table but another number of pins. The line that is written comes last.
 #[derive(Clone, Copy)]
 pub enum Step {
     Bits(u64, u8),
@@ -23,38 +24,6 @@ pub enum Step {
     Read(u8, u32),
     Same(u8, u8),
     Count(u8),
-}
-
-// The code of an address, in a byte.
-fn byte_at(codes: &Table, address: usize) -> u8 {
-    (code_at(codes, address) % 256) as u8
-}
-
-// A switch file of bits with this truth table.
-fn bit_file(heap: Global, pins: usize, codes: &Table) -> Result<Vec<u8>, AllocError> {
-    let mut switches = Vec::new(heap);
-    for address in 1..addresses(pins) {
-        if byte_at(codes, address) != byte_at(codes, address - 1) {
-            switches.push(address as u32)?;
-        }
-    }
-    let mut bytes = bit_map(heap, (pins % 256) as u8, &switches)?;
-    if let Some(first) = bytes.get_mut(7) {
-        *first = byte_at(codes, 0);
-    }
-    Ok(bytes)
-}
-
-// A switch file of chip settings with this truth table.
-fn setting_file(heap: Global, pins: usize, codes: &Table) -> Result<Vec<u8>, AllocError> {
-    let mut switches = Vec::new(heap);
-    for address in 1..addresses(pins) {
-        let code = byte_at(codes, address);
-        if code != byte_at(codes, address - 1) {
-            switches.push((address as u32, code))?;
-        }
-    }
-    setting_map(heap, (pins % 256) as u8, byte_at(codes, 0), &switches)
 }
 
 // Each joining on the same lines.
@@ -87,12 +56,12 @@ pub fn run(
 ) -> Result<Option<Fault>, AllocError> {
     Ok(match step {
         Step::Bits(pattern, d) => {
-            let bytes = bit_file(heap, pins, &bits(pins, pattern))?;
+            let bytes = bit_file(heap, pins, &bits::<16>(pins, pattern))?;
             plan.draw(&BitFile::over(&bytes), d, nodes, records, work)
                 .err()
         }
         Step::Settings(pattern, d) => {
-            let bytes = setting_file(heap, pins, &settings(pins, pattern))?;
+            let bytes = setting_file(heap, pins, &settings::<16>(&SETTINGS, pins, pattern))?;
             plan.draw(&SettingFile::over(&bytes), d, nodes, records, work)
                 .err()
         }
