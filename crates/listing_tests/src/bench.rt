@@ -3,9 +3,10 @@ use map_tests::building::{bit_map, setting_map};
 use model::Node;
 use plans::issued::IssuedPlan;
 use plans::open::OpenPlan;
-use readers::bit_file::BitFile;
-use readers::setting_file::SettingFile;
-use sources::source::Source;
+use readers::bit_file::Bits;
+use readers::kind::Kind;
+use readers::map_file::MapFile;
+use readers::setting_file::Settings;
 use std::alloc::AllocError;
 use std::process::Abort;
 use std::test::Fail;
@@ -31,9 +32,9 @@ impl Tables {
         })
     }
 
-    fn draw<S: Source>(&mut self, plan: &mut OpenPlan, line: u8, map: &S) -> Result<(), Fail> {
+    fn draw<K: Kind>(&mut self, plan: &mut OpenPlan, line: u8, bytes: &[u8]) -> Result<(), Fail> {
         plan.draw(
-            map,
+            &MapFile::<K>::read(bytes)?,
             line,
             &mut self.nodes,
             &mut self.records,
@@ -50,9 +51,7 @@ impl Tables {
         pins: u8,
         switches: &[u32],
     ) -> Result<(), Fail> {
-        let bytes = bit_map(rt.alloc(), pins, switches)?;
-        let map = BitFile::read(&bytes)?;
-        self.draw(plan, line, &map)
+        self.draw::<Bits>(plan, line, &bit_map(rt.alloc(), pins, switches)?)
     }
 
     pub fn draw_settings(
@@ -65,8 +64,7 @@ impl Tables {
         switches: &[(u32, u8)],
     ) -> Result<(), Fail> {
         let bytes = setting_map(rt.alloc(), pins, first, switches)?;
-        let map = SettingFile::read(&bytes)?;
-        self.draw(plan, line, &map)
+        self.draw::<Settings>(plan, line, &bytes)
     }
 }
 
@@ -100,9 +98,8 @@ fn expected(rt: &impl AllocGlobal, front: &str, lines: &[&str]) -> Result<String
     for line in lines {
         text.push_str(line)?;
     }
-    for _ in lines.len()..32 {
-        text.push_str("FF0000")?;
-    }
+    let empty = "FF0000".repeat(rt.alloc(), 32usize.saturating_sub(lines.len()))?;
+    text.push_str(&empty)?;
     text.push_str("A5")?;
     Ok(text)
 }
