@@ -7,7 +7,7 @@ use plans::open::OpenPlan;
 use readers::bit_file::BitFile;
 use std::alloc::{AllocError, Global};
 use std::time::Instant;
-use std::{env, io};
+use std::{env, fmt, io};
 use trees::tree::Record;
 
 const NODES: usize = 4096;
@@ -27,11 +27,27 @@ fn spread(heap: Global, addresses: u32, count: u32) -> Result<Vec<u32>, AllocErr
 }
 
 // The pins in address order, or from the last to the first.
-fn order_of(heap: Global, pins: u8, reversed: bool) -> Result<Vec<u8>, AllocError> {
-    if reversed {
-        (0..pins).rev().collect(heap)
-    } else {
-        (0..pins).collect(heap)
+#[derive(Clone, Copy)]
+enum Order {
+    Address,
+    Reversed,
+}
+
+impl Order {
+    fn pins(self, heap: Global, pins: u8) -> Result<Vec<u8>, AllocError> {
+        match self {
+            Order::Address => (0..pins).collect(heap),
+            Order::Reversed => (0..pins).rev().collect(heap),
+        }
+    }
+}
+
+impl fmt::Display for Order {
+    fn fmt<W: fmt::Write>(&self, f: &mut fmt::Formatter<W>) -> fmt::Result {
+        match self {
+            Order::Address => write!(f, "address"),
+            Order::Reversed => write!(f, "reversed"),
+        }
     }
 }
 
@@ -78,23 +94,18 @@ fn print_outcome(
     }
 }
 
-fn name_of(reversed: bool) -> &'static str {
-    if reversed { "reversed" } else { "address" }
-}
-
 // One row: a map of so many switches, drawn in one order.
 fn print_row(
     rt: &HostRuntime,
     pins: u8,
     count: u32,
     file: &BitFile,
-    reversed: bool,
+    order: Order,
 ) -> io::Result<()> {
-    let order = order_of(rt.alloc(), pins, reversed)?;
+    let row = order.pins(rt.alloc(), pins)?;
     let mut work = work_for(rt.alloc(), pins)?;
-    let name = name_of(reversed);
-    print!(rt; "{pins} {count} {name} ")?;
-    print_draw(rt, &order, file, &mut work)
+    print!(rt; "{pins} {count} {order} ")?;
+    print_draw(rt, &row, file, &mut work)
 }
 
 // The rows of one map: at most one switch for each address above 0.
@@ -103,8 +114,10 @@ fn print_map(rt: &HostRuntime, pins: u8, addresses: u32, most: u32) -> io::Resul
     let switches = spread(rt.alloc(), addresses, count)?;
     let bytes = bit_map(rt.alloc(), pins, &switches)?;
     let file = BitFile::over(&bytes);
-    print_row(rt, pins, count, &file, false)?;
-    print_row(rt, pins, count, &file, true)
+    for order in [Order::Address, Order::Reversed] {
+        print_row(rt, pins, count, &file, order)?;
+    }
+    Ok(())
 }
 
 fn print_maps(rt: &HostRuntime, pins: u8, addresses: u32) -> io::Result<()> {
