@@ -27,6 +27,7 @@ impl Kind for Ranges {
         Format::Ranges
     }
 
+    // One line, as of bits: a common trait of the two kinds would be longer.
     fn end(code: u8) -> bool {
         code == 1
     }

@@ -6,6 +6,7 @@ use Rattle.plans.specs.declared.header.Header.{Header}
 use Rattle.plans.specs.Plain.{Plain, Call, line, told, read_told, code_of, count_told, count_line}
 use Rattle.plans.specs.Holding.{Holds, Did, Reads, Counts, ToldValue}
 use Rattle.plans.specs.Results.{refusal}
+use Rattle.settled.specs.Readings.{ReadsEach}
 
 -- nothing is not something
 pub never : (t : Option Fault) (f : Fault) → t ≡ None → t ≡ Some f → ⊥
@@ -46,13 +47,21 @@ module _ (h : Header) (nodes : List Node) (p : Plain) (d k : ℕ) (o : Holds h n
   read_is : (a : ℕ) (r : Result ℕ Fault) → read_told p d a k ≡ None → Reads h nodes d a r → r ≡ Ok (code_of (line p d) a)
   read_is a r e reads = value_is r _ _ (ap (read_told p d a) l ∙ e) (reads.tells p o)
 
-  pub four_read : (r₀ r₁ r₂ r₃ : Result ℕ Fault) → Readable p d k → Reads h nodes d 0 r₀ → Reads h nodes d 1 r₁ → Reads h nodes d 2 r₂ → Reads h nodes d 3 r₃ → r₀ ∷ r₁ ∷ r₂ ∷ r₃ ∷ [] ≡ codes_of p d
-  four_read r₀ r₁ r₂ r₃ readable s₀ s₁ s₂ s₃ =
-      let e₀ = read_is 0 r₀ readable.at_0 s₀ in
-      let e₁ = read_is 1 r₁ readable.at_1 s₁ in
-      let e₂ = read_is 2 r₂ readable.at_2 s₂ in
-      let e₃ = read_is 3 r₃ readable.at_3 s₃ in
+  four_read : (r₀ r₁ r₂ r₃ : Result ℕ Fault) → Readable p d k → ReadsEach h nodes d (r₀ ∷ r₁ ∷ r₂ ∷ r₃ ∷ []) → r₀ ∷ r₁ ∷ r₂ ∷ r₃ ∷ [] ≡ codes_of p d
+  four_read r₀ r₁ r₂ r₃ readable reads =
+      let e₀ = read_is 0 r₀ readable.at_0 (reads.1 r₀ 0 (omega arith)) in
+      let e₁ = read_is 1 r₁ readable.at_1 (reads.1 r₀ 1 (omega arith)) in
+      let e₂ = read_is 2 r₂ readable.at_2 (reads.1 r₀ 2 (omega arith)) in
+      let e₃ = read_is 3 r₃ readable.at_3 (reads.1 r₀ 3 (omega arith)) in
       rw (e₀, e₁, e₂, e₃) refl
+
+  pub each_read : (r : List (Result ℕ Fault)) → Readable p d k → ReadsEach h nodes d r → r ≡ codes_of p d
+  each_read [] readable reads = absurd (let l = reads.0 in omega arith)
+  each_read (r₀ ∷ []) readable reads = absurd (let l = reads.0 in omega arith)
+  each_read (r₀ ∷ r₁ ∷ []) readable reads = absurd (let l = reads.0 in omega arith)
+  each_read (r₀ ∷ r₁ ∷ r₂ ∷ []) readable reads = absurd (let l = reads.0 in omega arith)
+  each_read (r₀ ∷ r₁ ∷ r₂ ∷ r₃ ∷ []) readable reads = four_read r₀ r₁ r₂ r₃ readable reads
+  each_read (r₀ ∷ r₁ ∷ r₂ ∷ r₃ ∷ r₄ ∷ r) readable reads = absurd (let l = reads.0 in omega arith)
 
 module _ (h : Header) (nodes : List Node) (p : Plain) (d k m w : ℕ) where
   pub count_told_is : (r : Result ℕ Fault) → Holds h nodes p → length nodes ≡ k → w ≡ m → count_told p d k m ≡ None → Counts h nodes d w r → r ≡ Ok (count_line p d)

@@ -1,5 +1,6 @@
 #![tactic(auto)]
 // Settled examples on the calls: what each of them tells, side by side in specs/Examples.
+mod four_reads;
 pub mod maps;
 pub mod mount;
 pub mod outcome;

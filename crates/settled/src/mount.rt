@@ -6,6 +6,7 @@ ghost use Rattle.trees.specs.Mixed.{codes};
 ghost use Rattle.settled.specs.Examples.{MountSettles};
 ghost use Rattle.settled.specs.Readings.{ReadsFour};
 
+use crate::four_reads::read_each;
 use crate::samples::SINGLE;
 use ends::end::End;
 use faults::fault::Fault;
@@ -25,12 +26,7 @@ fn read_four<S: Source>(source: &S) -> Result<[Result<u16, Fault>; 4], Fault>
     let mut work = [0; 60];
     let mut plan = OpenPlan::new(&[0, 1], &nodes)?;
     plan.draw(source, 0, &mut nodes, &mut records, &mut work)?;
-    Ok([
-        plan.read(&nodes, 0, 0),
-        plan.read(&nodes, 0, 1),
-        plan.read(&nodes, 0, 2),
-        plan.read(&nodes, 0, 3),
-    ])
+    Ok(read_each(&plan, &nodes, 0))
 }
 
 // A source mounted in 2 pins at base 1 with fill 0.

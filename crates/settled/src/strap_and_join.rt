@@ -1,5 +1,6 @@
 ghost use Rattle.settled.specs.Examples.{Settle, StrapAndJoinSettle};
 
+use crate::four_reads::read_each;
 use crate::outcomes::StrapAndJoin;
 use crate::two_lines::draw_two;
 use ends::joining::{Differ, Joining};
@@ -16,12 +17,7 @@ pub fn strap_and_join_settle() -> Result<StrapAndJoin, Fault>
     let mut work = [0; 60];
     let mut plan = draw_two(&mut nodes, &mut records, &mut work)?;
     let strapped = plan.strap(0, 0, true, 2, &mut nodes, &mut work);
-    let ends = [
-        plan.read(&nodes, 2, 0),
-        plan.read(&nodes, 2, 1),
-        plan.read(&nodes, 2, 2),
-        plan.read(&nodes, 2, 3),
-    ];
+    let ends = read_each(&plan, &nodes, 2);
     let used = plan.used();
     let joined = plan.join(&Differ, 0, 0, 3, &mut nodes, &mut work);
     let count = plan.count(&nodes, &mut work, 3);

@@ -9,6 +9,7 @@ use plans::open::OpenPlan;
 use readers::bit_file::BitFile;
 use trees::tree::Record;
 
+// The tables are three parameters: for a struct that holds them each contract would have to say that its three references stay the same.
 pub(crate) fn draw_file(
     plan: &mut OpenPlan,
     bytes: &[u8],

@@ -1,7 +1,7 @@
 use Rattle.std.proofs.Common.{Ok, ap, ◌∙◌}
 use Rattle.settled.specs.Lines.{new_plan}
 use Rattle.settled.proofs.Chains.{alone_read, alone_ends}
-use Rattle.settled.proofs.Steps.{never_refused, four_read}
+use Rattle.settled.proofs.Steps.{never_refused, each_read}
 use Rattle.settled.proofs.mount.read_four.Goals as goal
 
 pub returns-in_err-draw : goal.returns-in_err-draw
@@ -10,4 +10,4 @@ returns-in_err-draw g c = λ goes. absurd (never_refused _ _ new_plan _ _ _ _ c.
 pub returns : goal.returns
 returns g c = λ goes.
     let o = c.in_ok-draw.ensures.leaves new_plan c.in_ok-plan.ensures.holds in
-    ap Ok (four_read _ _ _ 0 3 o c.draw.auto.nodes _ _ _ _ (alone_read _ _ goes) c.read.ensures c.read-2.ensures c.read-3.ensures c.read-4.ensures ∙ alone_ends _ _ goes)
+    ap Ok (each_read _ _ _ 0 3 o c.draw.auto.nodes _ (alone_read _ _ goes) c.read_each.ensures ∙ alone_ends _ _ goes)

@@ -1,7 +1,7 @@
 use Rattle.std.proofs.Common.{Ok, refl, ap, ◌∙◌}
 use Rattle.settled.specs.Lines.{two_drawn}
 use Rattle.settled.proofs.Chains.{strapping, joining, strapped, joined, strap_goes, strap_uses, strap_read, strap_ends, join_goes, count_goes, none_counted}
-use Rattle.settled.proofs.Steps.{at_lengths, went, four_read, count_told_is}
+use Rattle.settled.proofs.Steps.{at_lengths, went, each_read, count_told_is}
 use Rattle.settled.proofs.strap_and_join.strap_and_join_settle.Goals as goal
 
 pub returns : goal.returns
@@ -18,7 +18,7 @@ returns c =
     let w₄ = c.join-joined.auto.work ∙ w₃ in
     record {
       strapped = went _ (d₃.tells two_drawn o₂ ∙ strap_goes);
-      ends = four_read _ _ strapped 2 3 o₃ n₃ _ _ _ _ strap_read c.read.ensures c.read-2.ensures c.read-3.ensures c.read-4.ensures ∙ strap_ends;
+      ends = each_read _ _ strapped 2 3 o₃ n₃ _ strap_read c.read_each-ends.ensures ∙ strap_ends;
       used = c.used-used.ensures _ strapped o₃ ∙ strap_uses;
       joined = went _ (d₄.tells strapped o₃ ∙ join_goes);
       count = count_told_is _ _ joined 3 3 60 _ _ o₄ n₄ w₄ count_goes c.count-count.ensures ∙ ap Ok none_counted;
