@@ -49,52 +49,6 @@ fn line_of(lines: &[Option<Table>], line: u8) -> Table {
         .unwrap_or([0; 16])
 }
 
-// The count, the codes and the likenesses of a line.
-fn check_line(
-    rt: &(impl Abort + AllocGlobal),
-    plan: &OpenPlan,
-    order: &[u8],
-    line: u8,
-    codes: Table,
-    nodes: &[Node],
-    work: &mut [u32],
-) -> Result<(), Fail> {
-    let count = plan.count(nodes, work, line)?;
-    assert_eq!(rt; count as usize, count_parts(rt.alloc(), &[codes], order)?);
-    for (address, code) in (0..addresses(order.len()) as u32).zip(codes) {
-        assert_eq!(rt; plan.read(nodes, line, address)?, code);
-    }
-    Ok(())
-}
-
-// Every held line, each pair of them, and the used number.
-fn check_lines(
-    rt: &(impl Abort + AllocGlobal),
-    plan: &OpenPlan,
-    order: &[u8],
-    lines: &[Option<Table>; 8],
-    nodes: &[Node],
-    work: &mut [u32],
-) -> Result<(), Fail> {
-    let mut held = Vec::new(rt.alloc());
-    for (a, line) in (0..8).zip(lines) {
-        if let Some(codes) = line {
-            held.push(*codes)?;
-            check_line(rt, plan, order, a, *codes, nodes, work)?;
-            for (b, other) in (0..8).zip(lines) {
-                if let Some(others) = other {
-                    assert_eq!(rt; plan.same(a, b)?, codes == others);
-                }
-            }
-        }
-    }
-    assert_eq!(rt;
-        plan.used() as usize,
-        count_parts(rt.alloc(), &held, order)?
-    );
-    Ok(())
-}
-
 fn shown(heap: Global, told: Option<Fault>) -> Result<String, AllocError> {
     match told {
         None => String::from_str(heap, DONE),
@@ -157,13 +111,46 @@ impl<'a> Bench<'a> {
         }
     }
 
-    // All that can be asked of the plan.
-    fn check_all(&mut self, rt: &(impl Abort + AllocGlobal)) -> Result<(), Fail> {
+    // The count and the codes of a line.
+    fn check_line(
+        &mut self,
+        rt: &(impl Abort + AllocGlobal),
+        line: u8,
+        codes: Table,
+    ) -> Result<(), Fail> {
         let order = self.order;
-        let lines = self.lines;
-        let size = self.lent.nodes;
-        let nodes = front(&mut self.nodes, size);
-        check_lines(rt, &self.plan, order, &lines, nodes, &mut self.work)
+        let nodes = front(&mut self.nodes, self.lent.nodes);
+        let count = self.plan.count(nodes, &mut self.work, line)?;
+        assert_eq!(rt; count as usize, count_parts(rt.alloc(), &[codes], order)?);
+        for (address, code) in (0..addresses(order.len()) as u32).zip(codes) {
+            assert_eq!(rt; self.plan.read(nodes, line, address)?, code);
+        }
+        Ok(())
+    }
+
+    // Every held line, each pair of them, and the used number.
+    fn check_all(&mut self, rt: &(impl Abort + AllocGlobal)) -> Result<(), Fail> {
+        let mut held = Vec::new(rt.alloc());
+        for (line, codes) in (0..8).zip(self.lines) {
+            if let Some(codes) = codes {
+                held.push((line, codes))?;
+                self.check_line(rt, line, codes)?;
+            }
+        }
+        for (a, codes) in &held {
+            for (b, others) in &held {
+                assert_eq!(rt; self.plan.same(*a, *b)?, codes == others);
+            }
+        }
+        let tables = held
+            .iter()
+            .map(|(_, codes)| *codes)
+            .collect::<Vec<Table>>(rt.alloc())?;
+        assert_eq!(rt;
+            self.plan.used() as usize,
+            count_parts(rt.alloc(), &tables, self.order)?
+        );
+        Ok(())
     }
 
     // A call that tells this, with so much lent; a refused one changes nothing.

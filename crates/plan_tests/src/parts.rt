@@ -54,7 +54,7 @@ pub fn count_parts(heap: Global, tables: &[Table], order: &[u8]) -> Result<usize
         for codes in tables {
             add_parts(&mut parts, codes, place, fixed, bit)?;
         }
-        fixed = fixed | bit;
+        fixed |= bit;
     }
     Ok(parts.len())
 }

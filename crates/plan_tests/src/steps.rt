@@ -44,7 +44,8 @@ fn join(
     }
 }
 
-// Makes the call on a plan of so many pins, and hands back its refusal.
+// Makes the call on a plan of so many pins, and hands back its refusal. The tables are three parameters, as in the calls
+// of a plan.
 pub fn run(
     heap: Global,
     step: Step,
