@@ -1,5 +1,5 @@
 // Truth tables: the code of each address. A table of fewer pins repeats itself.
-ghost use Rattle.std.specs.Prelude.{◌≤◌};
+ghost use Rattle.std.specs.Prelude.{◌≡◌, ◌≤◌, slice_index_or};
 
 use std::array;
 
@@ -20,7 +20,9 @@ pub fn addresses(pins: usize) -> usize
     }
 }
 
-pub fn code_at(codes: &[u16], address: usize) -> u16 {
+pub fn code_at(codes: &[u16], address: usize) -> u16
+    ensures { result ≡ slice_index_or codes.now address 65535 }
+{
     codes.get(address).copied().unwrap_or(NO_CODE)
 }
 
