@@ -12,3 +12,4 @@ pub mod Listed
 pub mod Drawings
 pub mod Strappings
 pub mod Joinings
+pub mod Runs

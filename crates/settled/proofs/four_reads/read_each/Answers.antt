@@ -1,6 +1,6 @@
 use Rattle.std.proofs.Common.{◌≡◌, refl, rules, arith}
 use Rattle.plans.specs.Holding.{Reads}
-use Rattle.settled.proofs.Runs.{each_call}
+use Rattle.plans.proofs.Runs.{each_call}
 use Rattle.settled.proofs.four_reads.read_each.Goals as goal
 
 pub returns : goal.returns
