@@ -6,6 +6,7 @@ use ends::joining::Differ;
 use faults::fault::{Fault, Ground};
 use model::Node;
 use readers::bit_file::BitFile;
+use rows::lent::Tables;
 use rows::listing::{list_row, lists_alike};
 use rows::row::Row;
 use std::test::Fail;
@@ -17,13 +18,17 @@ fn alike<A: Row, B: Row>(one: &A, two: &B) -> Result<bool, Fault> {
         one,
         two,
         &[1, 0],
-        &mut [Node::blank(); 8],
-        &mut [Record::blank(); 4],
-        &mut [0; 120],
+        &mut Tables {
+            nodes: &mut [Node::blank(); 8],
+            records: &mut [Record::blank(); 4],
+            work: &mut [0; 120],
+        },
         &mut [0; 160],
-        &mut [Node::blank(); 16],
-        &mut [Record::blank(); 8],
-        &mut [0; 216],
+        &mut Tables {
+            nodes: &mut [Node::blank(); 16],
+            records: &mut [Record::blank(); 8],
+            work: &mut [0; 216],
+        },
         &mut [0xAA; 180],
     )
 }
@@ -33,9 +38,11 @@ fn list_dawn(buffer: &mut [u8]) -> Result<usize, Fault> {
     list_row(
         &draw(Dawn, 1),
         &[0, 1],
-        &mut [Node::blank(); 8],
-        &mut [Record::blank(); 4],
-        &mut [0; 120],
+        &mut Tables {
+            nodes: &mut [Node::blank(); 8],
+            records: &mut [Record::blank(); 4],
+            work: &mut [0; 120],
+        },
         buffer,
     )
 }

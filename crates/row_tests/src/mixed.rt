@@ -9,6 +9,7 @@ use readers::bit_file::BitFile;
 use rows::after::after_row;
 use rows::calls::{Draw, Erase, Join, Strap};
 use rows::hand::Hand;
+use rows::lent::Tables;
 use rows::row::Row;
 use std::test::Fail;
 use trees::tree::Record;
@@ -28,10 +29,12 @@ struct Told {
 
 // A row on a new plan with eight nodes, four tree records and the work for two pins.
 fn told_after<R: Row>(row: &R, order: &[u8]) -> Result<Told, Fault> {
-    let mut nodes = [Node::blank(); 8];
-    let mut records = [Record::blank(); 4];
-    let mut work = [0; 120];
-    let outcome = after_row(row, order, &mut nodes, &mut records, &mut work)?;
+    let mut tables = Tables {
+        nodes: &mut [Node::blank(); 8],
+        records: &mut [Record::blank(); 4],
+        work: &mut [0; 120],
+    };
+    let outcome = after_row(row, order, &mut tables)?;
     let [a, b, c, d, e, ..] = outcome.counts;
     Ok(Told {
         used: outcome.used,

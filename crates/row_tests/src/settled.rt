@@ -8,6 +8,7 @@ use model::Node;
 use rows::after::after_row;
 use rows::calls::{Draw, Erase, Join, Strap};
 use rows::hand::Hand;
+use rows::lent::Tables;
 use trees::tree::Record;
 
 const WHOLE: Hand = Hand {
@@ -47,9 +48,11 @@ pub fn lamps_settle() -> Result<u16, Fault>
     let outcome = after_row(
         &row,
         &[0, 1],
-        &mut [Node::blank(); 8],
-        &mut [Record::blank(); 4],
-        &mut [0; 120],
+        &mut Tables {
+            nodes: &mut [Node::blank(); 8],
+            records: &mut [Record::blank(); 4],
+            work: &mut [0; 120],
+        },
     )?;
     Ok(outcome.used)
 }

@@ -83,9 +83,3 @@ ran_handed F of h h' nodes front j k a a' b b' e q s r d p o =
 -- the length of a front
 pub front_length : {A : Type 0} (j k : ℕ) (xs : List A) → k ≡ min j (length xs) → length (take k xs) ≡ min j (length xs)
 front_length j k xs e = length-take k xs ∙ (omega arith)
-
--- a call that only reads the front of the node table
-pub ran_reading : (F : ℕ → ℕ → ℕ → Call) → ((a b c : ℕ) → nodes_of (F a b c) ≡ a) → (h h' : Header) (nodes : List Node) (j k b b' : ℕ) → k ≡ min j (length nodes) → b ≡ b'
-    → (r : Result (Unit {0}) Fault) → Did h (take k nodes) (F (length (take k nodes)) 0 b) r h' (take k nodes) → Ran h nodes (F (min j (length nodes)) 0 b' ∷ []) h' nodes
-ran_reading F of h h' nodes j k b b' e s r d =
-    subst (λ (ns : List Node). Ran h nodes (F (min j (length nodes)) 0 b' ∷ []) h' ns) (take-append-drop k nodes) (ran_handed F of h h' nodes (take k nodes) j k 0 0 b b' e refl s r d)

@@ -3,28 +3,24 @@ ghost use Rattle.std.specs.Prelude.{◌≡◌, ℕ, ◌<◌, length, None, slice
 ghost use Rattle.plans.specs.Holding.{Holds};
 ghost use Rattle.plans.specs.Plain.{Plain};
 ghost use Rattle.rows.specs.Laws.{plain_after, AfterMaking, count_if_told, Priced};
-ghost use Rattle.rows.specs.Rows.{whole};
+ghost use Rattle.rows.specs.Rows.{whole, KeepsLoans};
 
+use crate::lent::Tables;
 use crate::outcome::Outcome;
 use crate::row::Row;
 use faults::fault::Fault;
 use model::Node;
 use plans::open::OpenPlan;
 use std::array;
-use trees::tree::Record;
 
 // A new plan on which a row was run.
-pub fn plan_after<R: Row>(
-    row: &R,
-    order: &[u8],
-    nodes: &mut [Node],
-    records: &mut [Record],
-    work: &mut [u32],
-) -> Result<OpenPlan, Fault>
-    ensures { AfterMaking order.now (whole nodes.old records.old work.old) result (λ plan. Holds plan.header nodes.new (plain_after order.now (whole nodes.old records.old work.old) (R.Row.calls row.now))) }
+pub fn plan_after<R: Row>(row: &R, order: &[u8], tables: &mut Tables) -> Result<OpenPlan, Fault>
+    ensures loans { KeepsLoans tables.old tables.new }
+    ensures holds { AfterMaking order.now (whole tables.old) result (λ plan. Holds plan.header tables.new.nodes.now (plain_after order.now (whole tables.old) (R.Row.calls row.now))) }
 {
+    let nodes = &mut *tables.nodes;
     let mut plan = OpenPlan::new(order, nodes)?;
-    row.run(&mut plan, nodes, records, work);
+    row.run(&mut plan, tables);
     Ok(plan)
 }
 
@@ -51,15 +47,12 @@ fn price(plan: OpenPlan, nodes: &[Node], work: &mut [u32]) -> Outcome
 }
 
 // The used number and the counts after a row on a new plan.
-pub fn after_row<R: Row>(
-    row: &R,
-    order: &[u8],
-    nodes: &mut [Node],
-    records: &mut [Record],
-    work: &mut [u32],
-) -> Result<Outcome, Fault>
-    ensures { AfterMaking order.now (whole nodes.old records.old work.old) result (Priced (plain_after order.now (whole nodes.old records.old work.old) (R.Row.calls row.now)) nodes.new (length work.old)) }
+pub fn after_row<R: Row>(row: &R, order: &[u8], tables: &mut Tables) -> Result<Outcome, Fault>
+    ensures loans { KeepsLoans tables.old tables.new }
+    ensures priced { AfterMaking order.now (whole tables.old) result (Priced (plain_after order.now (whole tables.old) (R.Row.calls row.now)) tables.new.nodes.now (length tables.old.work.now)) }
 {
-    let plan = plan_after(row, order, nodes, records, work)?;
+    let plan = plan_after(row, order, tables)?;
+    let nodes = &mut *tables.nodes;
+    let work = &mut *tables.work;
     Ok(price(plan, nodes, work))
 }

@@ -7,13 +7,12 @@ ghost use Rattle.rows.specs.Rows.{handed};
 ghost use Rattle.trees.specs.Mixed.{codes};
 
 use crate::hand::Hand;
+use crate::lent::Tables;
 use crate::row::Row;
 use ends::end::End;
 use ends::joining::Joining;
-use model::Node;
 use plans::open::OpenPlan;
 use sources::source::Source;
-use trees::tree::Record;
 
 // Drawing a source on a line.
 #[derive(Drop)]
@@ -26,21 +25,12 @@ pub struct Draw<S> {
 impl<S: Source> Row for Draw<S> {
     ghost calls = { λ r l. draw r.line (S.Source.width r.source) (codes S.Of.End.code (S.Source.selection r.source)) (handed r.hand l).nodes (handed r.hand l).records (handed r.hand l).work ∷ [] };
 
-    fn run(
-        &self,
-        plan: &mut OpenPlan,
-        nodes: &mut [Node],
-        records: &mut [Record],
-        work: &mut [u32],
-    ) {
-        let hand = self.hand.within(nodes.len(), records.len(), work.len());
-        let _ = plan.draw(
-            &self.source,
-            self.line,
-            &mut nodes[..hand.nodes],
-            &mut records[..hand.records],
-            &mut work[..hand.work],
-        );
+    fn run(&self, plan: &mut OpenPlan, tables: &mut Tables) {
+        let hand = self.hand.within(tables);
+        let nodes = &mut tables.nodes[..hand.nodes];
+        let records = &mut tables.records[..hand.records];
+        let work = &mut tables.work[..hand.work];
+        let _ = plan.draw(&self.source, self.line, nodes, records, work);
     }
 }
 
@@ -57,22 +47,11 @@ pub struct Join<J> {
 impl<J: Joining> Row for Join<J> {
     ghost calls = { λ r l. join (decodes J.Of.End.decoded) (code_join J.Of.End.decoded J.Of.End.code J.Joining.joined) r.left r.right r.line (handed r.hand l).nodes (handed r.hand l).work ∷ [] };
 
-    fn run(
-        &self,
-        plan: &mut OpenPlan,
-        nodes: &mut [Node],
-        records: &mut [Record],
-        work: &mut [u32],
-    ) {
-        let hand = self.hand.within(nodes.len(), records.len(), work.len());
-        let _ = plan.join(
-            &self.joining,
-            self.left,
-            self.right,
-            self.line,
-            &mut nodes[..hand.nodes],
-            &mut work[..hand.work],
-        );
+    fn run(&self, plan: &mut OpenPlan, tables: &mut Tables) {
+        let hand = self.hand.within(tables);
+        let nodes = &mut tables.nodes[..hand.nodes];
+        let work = &mut tables.work[..hand.work];
+        let _ = plan.join(&self.joining, self.left, self.right, self.line, nodes, work);
     }
 }
 
@@ -89,22 +68,11 @@ pub struct Strap {
 impl Row for Strap {
     ghost calls = { λ r l. strap r.from r.pin r.high r.line (handed r.hand l).nodes (handed r.hand l).work ∷ [] };
 
-    fn run(
-        &self,
-        plan: &mut OpenPlan,
-        nodes: &mut [Node],
-        records: &mut [Record],
-        work: &mut [u32],
-    ) {
-        let hand = self.hand.within(nodes.len(), records.len(), work.len());
-        let _ = plan.strap(
-            self.from,
-            self.pin,
-            self.high,
-            self.line,
-            &mut nodes[..hand.nodes],
-            &mut work[..hand.work],
-        );
+    fn run(&self, plan: &mut OpenPlan, tables: &mut Tables) {
+        let hand = self.hand.within(tables);
+        let nodes = &mut tables.nodes[..hand.nodes];
+        let work = &mut tables.work[..hand.work];
+        let _ = plan.strap(self.from, self.pin, self.high, self.line, nodes, work);
     }
 }
 
@@ -118,14 +86,10 @@ pub struct Erase {
 impl Row for Erase {
     ghost calls = { λ r l. erase r.line (handed r.hand l).nodes (handed r.hand l).work ∷ [] };
 
-    fn run(
-        &self,
-        plan: &mut OpenPlan,
-        nodes: &mut [Node],
-        records: &mut [Record],
-        work: &mut [u32],
-    ) {
-        let hand = self.hand.within(nodes.len(), records.len(), work.len());
-        let _ = plan.erase(&nodes[..hand.nodes], &mut work[..hand.work], self.line);
+    fn run(&self, plan: &mut OpenPlan, tables: &mut Tables) {
+        let hand = self.hand.within(tables);
+        let nodes = &mut tables.nodes[..hand.nodes];
+        let work = &mut tables.work[..hand.work];
+        let _ = plan.erase(nodes, work, self.line);
     }
 }

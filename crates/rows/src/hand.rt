@@ -1,4 +1,6 @@
-ghost use Rattle.std.specs.Prelude.{◌≡◌, ◌-◌, ◌^◌, min};
+ghost use Rattle.std.specs.Prelude.{◌≡◌, ◌-◌, ◌^◌, length, min};
+
+use crate::lent::Tables;
 
 // How much of each lent table a call is handed: at most so many from the front.
 #[derive(Clone, Copy)]
@@ -20,16 +22,16 @@ impl Hand {
         }
     }
 
-    // What it comes to with tables of these lengths.
-    pub(crate) fn within(self, nodes: usize, records: usize, work: usize) -> Hand
-        ensures nodes { result.nodes ≡ min self.nodes nodes }
-        ensures records { result.records ≡ min self.records records }
-        ensures work { result.work ≡ min self.work work }
+    // What it gives of these tables.
+    pub(crate) fn within(self, tables: &Tables) -> Hand
+        ensures nodes { result.nodes ≡ min self.nodes (length tables.now.nodes.now) }
+        ensures records { result.records ≡ min self.records (length tables.now.records.now) }
+        ensures work { result.work ≡ min self.work (length tables.now.work.now) }
     {
         Hand {
-            nodes: self.nodes.min(nodes),
-            records: self.records.min(records),
-            work: self.work.min(work),
+            nodes: self.nodes.min(tables.nodes.len()),
+            records: self.records.min(tables.records.len()),
+            work: self.work.min(tables.work.len()),
         }
     }
 }

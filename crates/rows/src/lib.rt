@@ -3,6 +3,7 @@
 pub mod after;
 pub mod calls;
 pub mod hand;
+pub mod lent;
 pub mod listing;
 pub mod outcome;
 pub mod row;

@@ -1,26 +1,26 @@
 // Listings of rows on new plans.
 ghost use Rattle.std.specs.Prelude.{length};
 ghost use Rattle.rows.specs.Laws.{plain_after, ListingIsTheLayout, RowsCompared};
-ghost use Rattle.rows.specs.Rows.{whole};
+ghost use Rattle.rows.specs.Rows.{whole, KeepsLoans};
 
 use crate::after::plan_after;
+use crate::lent::Tables;
 use crate::row::Row;
 use faults::fault::Fault;
-use model::Node;
-use trees::tree::Record;
 
 // The listing after a row on a new plan, at the front of a buffer. Tells its length.
 pub fn list_row<R: Row>(
     row: &R,
     order: &[u8],
-    nodes: &mut [Node],
-    records: &mut [Record],
-    work: &mut [u32],
+    tables: &mut Tables,
     buffer: &mut [u8],
 ) -> Result<usize, Fault>
-    ensures { ListingIsTheLayout order.now (whole nodes.old records.old work.old) (plain_after order.now (whole nodes.old records.old work.old) (R.Row.calls row.now)) buffer.old result buffer.new }
+    ensures loans { KeepsLoans tables.old tables.new }
+    ensures listed { ListingIsTheLayout order.now (whole tables.old) (plain_after order.now (whole tables.old) (R.Row.calls row.now)) buffer.old result buffer.new }
 {
-    let plan = plan_after(row, order, nodes, records, work)?;
+    let plan = plan_after(row, order, tables)?;
+    let nodes = &mut *tables.nodes;
+    let work = &mut *tables.work;
     plan.issue().list(nodes, work, buffer)
 }
 
@@ -29,25 +29,16 @@ pub fn lists_alike<A: Row, B: Row>(
     one: &A,
     two: &B,
     order: &[u8],
-    nodes: &mut [Node],
-    records: &mut [Record],
-    work: &mut [u32],
+    tables: &mut Tables,
     buffer: &mut [u8],
-    other_nodes: &mut [Node],
-    other_records: &mut [Record],
-    other_work: &mut [u32],
+    other_tables: &mut Tables,
     other_buffer: &mut [u8],
 ) -> Result<bool, Fault>
-    ensures { RowsCompared order.now (whole nodes.old records.old work.old) (whole other_nodes.old other_records.old other_work.old) (plain_after order.now (whole nodes.old records.old work.old) (A.Row.calls one.now)) (plain_after order.now (whole other_nodes.old other_records.old other_work.old) (B.Row.calls two.now)) buffer.old other_buffer.old result buffer.new other_buffer.new }
+    ensures loans { KeepsLoans tables.old tables.new }
+    ensures other_loans { KeepsLoans other_tables.old other_tables.new }
+    ensures compared { RowsCompared order.now (whole tables.old) (whole other_tables.old) (plain_after order.now (whole tables.old) (A.Row.calls one.now)) (plain_after order.now (whole other_tables.old) (B.Row.calls two.now)) buffer.old other_buffer.old result buffer.new other_buffer.new }
 {
-    let len = list_row(one, order, nodes, records, work, buffer)?;
-    let other_len = list_row(
-        two,
-        order,
-        other_nodes,
-        other_records,
-        other_work,
-        other_buffer,
-    )?;
+    let len = list_row(one, order, tables, buffer)?;
+    let other_len = list_row(two, order, other_tables, other_buffer)?;
     Ok(&buffer[..len] == &other_buffer[..other_len])
 }
