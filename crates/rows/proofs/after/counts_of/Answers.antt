@@ -1,6 +1,6 @@
 use Rattle.std.proofs.Common.{◌≡◌, length, refl, None, rules, arith}
 use Rattle.rows.specs.Laws.{count_if_told}
-use Rattle.rows.proofs.Pricing.{each_call}
+use Rattle.plans.proofs.Runs.{each_call}
 use Rattle.rows.proofs.after.counts_of.Goals as goal
 
 pub returns : goal.returns
