@@ -1,16 +1,13 @@
 -- What is listed after a row, and when two listings are equal.
-use Rattle.std.proofs.Common.{◌≡◌, ℕ, ◌≤◌, Bool, true, false, cond, ◌||◌, ltb, ◌↔◌, List, [], ◌∷◌, ◌++◌, length, take, drop, Some, None, Ok, Err, Decides, Option, Result, sym, refl, ap, ◌∙◌, subst, arith}
-use Rattle.std.proofs.lemmas.List.{length-append, take_at}
+use Rattle.std.proofs.Common.{◌≡◌, ℕ, Bool, true, false, cond, ◌||◌, ltb, ◌↔◌, List, [], ◌∷◌, ◌++◌, length, take, drop, Some, None, Ok, Decides, Option, Result, sym, refl, ap, ◌∙◌, subst, arith}
+use Rattle.std.proofs.lemmas.List.{take_at}
 use Rattle.faults.specs.declared.fault.Fault.{Fault}
 use Rattle.faults.specs.declared.fault.Ground.TheVariants as ground
 use Rattle.faults.specs.Refusals.{at, refuse_if, or_else, is_none}
-use Rattle.model.specs.declared.Node.{Node}
 use Rattle.model.specs.Orders.{Order}
-use Rattle.plans.specs.declared.header.Header.{Header}
 use Rattle.plans.specs.Orders.{misplaced_below}
 use Rattle.plans.specs.Plain.{Plain, Call, draw, join, strap, erase, pins, empty_plan, make_told, told, changed, after}
-use Rattle.plans.specs.Holding.{Holds, ToldValue}
-use Rattle.plans.specs.Listing.{listing_of, list_told, Lists}
+use Rattle.plans.specs.Listing.{listing_of, list_told}
 use Rattle.plans.proofs.Naming.{is_order}
 use Rattle.plans.proofs.Listed.{listings_tell}
 use Rattle.rows.specs.Rows.{Lent, runs}
@@ -47,44 +44,6 @@ made_order order size e =
     is_order order (or_left (misplaced_below order (length order)) (refuse_if (ltb size 1 || ltb 4096 size) (at ground.NodeTable size) None)
     (not_refused (ltb (length order) 1 || ltb 20 (length order)) (at ground.OrderLength (length order)) _ e))
 
--- One row.
-
-module _ (order : List ℕ) (l : Lent) (p : Plain) (buffer : List ℕ) where
-  -- what is written, by what is told
-  refused_wrote : (t : Option Fault) (f : Fault) (listing : List ℕ) → t ≡ Some f → buffer ≡ written t listing buffer
-  refused_wrote t f listing e = sym (ap (λ (o : Option Fault). written o listing buffer) e)
-
-  pub not_made : (f : Fault) → make_told order l.nodes ≡ Some f → ListingIsTheLayout order l p buffer (Err f) buffer
-  not_made f e =
-      let t : listing_told order l p (length buffer) ≡ Some f = ap (λ (o : Option Fault). or_else o (list_told p l.nodes l.work (length buffer))) e in
-      record { told = t; wrote = refused_wrote (listing_told order l p (length buffer)) f (listing_of p) t }
-
-  module _ (made : make_told order l.nodes ≡ None) where
-    list_decides : listing_told order l p (length buffer) ≡ list_told p l.nodes l.work (length buffer)
-    list_decides = ap (λ (o : Option Fault). or_else o (list_told p l.nodes l.work (length buffer))) made
-
-    told_listing : (r : Result ℕ Fault) (buffer' : List ℕ) → ToldValue r (list_told p l.nodes l.work (length buffer)) (λ k. (k ≡ length (listing_of p)) × (buffer' ≡ listing_of p ++ drop k buffer))
-        → ((f : Fault) → r ≡ Err f → buffer' ≡ buffer) → ListingIsTheLayout order l p buffer r buffer'
-    told_listing (Ok k) buffer' t kept =
-        let none = list_decides ∙ t.0 in
-        record {
-          told = (none, t.1.0);
-          wrote = t.1.1 ∙ ap (λ (j : ℕ). listing_of p ++ drop j buffer) t.1.0 ∙ sym (ap (λ (o : Option Fault). written o (listing_of p) buffer) none);
-        }
-    told_listing (Err f) buffer' t kept =
-        let some = list_decides ∙ t in
-        record { told = some; wrote = kept f refl ∙ refused_wrote (listing_told order l p (length buffer)) f (listing_of p) some }
-
-    pub listed : (h h' : Header) (nodes : List Node) (w : ℕ) (r : Result ℕ Fault) (buffer' : List ℕ) → h' ≡ h → length nodes ≡ l.nodes → w ≡ l.work → Holds h nodes p → Lists h' nodes w buffer r buffer'
-        → ListingIsTheLayout order l p buffer r buffer'
-    listed h h' nodes w r buffer' same a b o d =
-        let held = subst (λ (x : Header). Holds x nodes p) (sym same) o in
-        let t = d.tells p held in
-        told_listing r buffer'
-        (subst (λ (k : ℕ). ToldValue r (list_told p k l.work (length buffer)) (λ k. (k ≡ length (listing_of p)) × (buffer' ≡ listing_of p ++ drop k buffer))) a
-        (subst (λ (k : ℕ). ToldValue r (list_told p (length nodes) k (length buffer)) (λ k. (k ≡ length (listing_of p)) × (buffer' ≡ listing_of p ++ drop k buffer))) b t))
-        d.kept
-
 -- A listing that is not refused stands at the front of its buffer.
 
 module _ (order : List ℕ) (l : Lent) (p : Plain) (buffer : List ℕ) (k : ℕ) (buffer' : List ℕ) (d : ListingIsTheLayout order l p buffer (Ok k) buffer') where
@@ -93,15 +52,6 @@ module _ (order : List ℕ) (l : Lent) (p : Plain) (buffer : List ℕ) (k : ℕ)
 
   front : take k buffer' ≡ listing_of p
   front = ap (take k) stands ∙ take_at (listing_of p) (drop (length (listing_of p)) buffer) k (sym d.told.1)
-
-  pub within : k ≤ length buffer'
-  within =
-      let is = d.told.1 in
-      let a = ap length stands ∙ length-append (listing_of p) (drop (length (listing_of p)) buffer) in
-      omega arith
-
-  pub front_long : k ≡ length (take k buffer')
-  front_long = d.told.1 ∙ sym (ap length front)
 
 -- Two rows.
 
@@ -112,20 +62,12 @@ pub plain_order : (order : List ℕ) (l : Lent) (calls : Lent → List Call) →
 plain_order order l calls = runs_order (empty_plan order l.nodes) (calls l)
 
 module _ (order : List ℕ) (l m : Lent) (p q : Plain) (buffer other : List ℕ) where
-  pub one_refused : (f : Fault) (buffer' : List ℕ) → ListingIsTheLayout order l p buffer (Err f) buffer' → RowsCompared order l m p q buffer other (Err f) buffer' other
-  one_refused f buffer' a =
-      let t : either_told order l m p q (length buffer) (length other) ≡ Some f = ap (λ (o : Option Fault). or_else o (listing_told order m q (length other))) a.told in
-      record { told = t; wrote = a.wrote; wrote_other = sym (ap (λ (o : Option Fault). written o (listing_of q) other) t) }
-
   module _ (k : ℕ) (buffer' : List ℕ) (a : ListingIsTheLayout order l p buffer (Ok k) buffer') (other' : List ℕ) where
     two_decides : either_told order l m p q (length buffer) (length other) ≡ listing_told order m q (length other)
     two_decides = ap (λ (o : Option Fault). or_else o (listing_told order m q (length other))) a.told.0
 
     wrote_two : {r : Result ℕ Fault} → ListingIsTheLayout order m q other r other' → other' ≡ written (either_told order l m p q (length buffer) (length other)) (listing_of q) other
     wrote_two b = b.wrote ∙ sym (ap (λ (o : Option Fault). written o (listing_of q) other) two_decides)
-
-    pub two_refused : (f : Fault) → ListingIsTheLayout order m q other (Err f) other' → RowsCompared order l m p q buffer other (Err f) buffer' other'
-    two_refused f b = record { told = two_decides ∙ b.told; wrote = a.wrote; wrote_other = wrote_two b }
 
     pub compared : p.order ≡ order → q.order ≡ order → (j : ℕ) (same : Bool) → ListingIsTheLayout order m q other (Ok j) other'
         → Decides same (take k buffer' ≡ take j other') → RowsCompared order l m p q buffer other (Ok same) buffer' other'
