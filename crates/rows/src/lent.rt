@@ -2,7 +2,7 @@ use model::Node;
 use trees::tree::Record;
 
 // The tables that are lent to a row.
-// Where two of them go into a call, both are lent by `&mut` first, even one that is only read: a `&` beside a `&mut` has no rule yet.
+// Behind `&mut Tables` each is lent on by `&mut`, even to be read: a `&` beside a `&mut` has no rule yet, and after a `&` alone the proof has lost the table.
 #[derive(Drop)]
 pub struct Tables<'a> {
     pub nodes: &'a mut [Node],
