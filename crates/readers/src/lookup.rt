@@ -12,16 +12,6 @@ use files::format::Format;
 use sources::block::Block;
 use sources::source::Answer;
 
-// The first and the last address of a block. (That pins are few is an invariant of `MapFile`, of which this needs no more.)
-fn span(pins: u32, block: Block) -> (u32, u32)
-    requires { (Inside pins block.level block.number) × (pins ≤ 20) }
-    ensures { (result.0 ≡ block.number * 2 ^ (pins - block.level)) × (result.1 ≡ block.number * 2 ^ (pins - block.level) + (2 ^ (pins - block.level) - 1)) }
-{
-    let size = 1 << (pins - block.level);
-    let first = block.number * size;
-    (first, first + (size - 1))
-}
-
 impl<'a, K: Kind> MapFile<'a, K> {
     pub(crate) fn fields(&self) -> Fields<'a>
         ensures bytes { result.bytes.now ≡ self.now.bytes.now }
@@ -99,15 +89,24 @@ impl<'a, K: Kind> MapFile<'a, K> {
         i < self.changes() && self.change(i + 1) <= address
     }
 
+    // The first and the last address of a block.
+    fn span(&self, block: Block) -> (u32, u32)
+        requires { Inside (pins_of K.format self.now.bytes.now) block.level block.number }
+        ensures { (result.0 ≡ block.number * 2 ^ (pins_of K.format self.now.bytes.now - block.level)) × (result.1 ≡ block.number * 2 ^ (pins_of K.format self.now.bytes.now - block.level) + (2 ^ (pins_of K.format self.now.bytes.now - block.level) - 1)) }
+    {
+        let size = 1 << (self.pin_count() - block.level);
+        let first = block.number * size;
+        (first, first + (size - 1))
+    }
+
     // What is true of a block, in codes.
     pub(crate) fn ask_codes(&self, block: Block) -> Answer<u8>
         ensures { Says (pins_of K.format self.now.bytes.now) (meaning K.format self.now.bytes.now) block.level block.number result }
     {
-        let pins = self.pin_count();
-        if !block.is_in(pins) {
+        if !block.is_in(self.pin_count()) {
             return Answer::Outside;
         }
-        let (first, last) = span(pins, block);
+        let (first, last) = self.span(block);
         let i = self.last_change(first);
         if self.changes_by(i, last) {
             Answer::Mixed

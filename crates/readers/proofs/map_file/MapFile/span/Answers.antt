@@ -1,7 +1,7 @@
 use Rattle.std.proofs.Common.{◌≡◌, ℕ, ◌+◌, ◌-◌, ◌*◌, ◌%◌, ◌^◌, ◌<◌, ◌≤◌, ap, arith, pow_pos, pow_mono, pow-add}
 use Rattle.std.proofs.lemmas.Nat.{one_shl, mul-add-lt}
 use Rattle.sources.specs.Blocks.{Inside}
-use Rattle.readers.proofs.lookup.span.Goals as goal
+use Rattle.readers.proofs.map_file.MapFile.span.Goals as goal
 
 -- the end of a block is within the pins
 ends_within : (n j p : ℕ) → Inside n j p → n ≤ 20 → p * 2 ^ (n - j) + (2 ^ (n - j) - 1) < 2 ^ 20
@@ -15,7 +15,11 @@ shift : (n j : ℕ) → n ≤ 20 → 1 * 2 ^ (n - j) % 4294967296 ≡ 2 ^ (n - j
 shift n j few = one_shl (n - j) 32 (omega arith)
 
 pub overflow_mul-first : goal.overflow_mul-first
-overflow_mul-first c = simp (shift c.args.pins c.args.block.level c.requires.1) (omega (arith, ends_within c.args.pins c.args.block.level c.args.block.number c.requires.0 c.requires.1))
+overflow_mul-first g c =
+    let few = c.args.self.now.few in
+    simp (c.pin_count.ensures, shift _ c.args.block.level few) (omega (arith, ends_within _ c.args.block.level c.args.block.number c.requires few))
 
 pub overflow_add-result : goal.overflow_add-result
-overflow_add-result c = simp (shift c.args.pins c.args.block.level c.requires.1) (omega (arith, ends_within c.args.pins c.args.block.level c.args.block.number c.requires.0 c.requires.1))
+overflow_add-result g c =
+    let few = c.args.self.now.few in
+    simp (c.pin_count.ensures, shift _ c.args.block.level few) (omega (arith, ends_within _ c.args.block.level c.args.block.number c.requires few))
