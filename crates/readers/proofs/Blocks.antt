@@ -1,5 +1,5 @@
 -- Blocks of an accepted file.
-use Rattle.std.proofs.Common.{◌≡◌, ℕ, ◌+◌, ◌-◌, ◌*◌, ◌^◌, ◌<◌, ◌≤◌, List, sym, ap, ◌∙◌, subst, arith}
+use Rattle.std.proofs.Common.{◌≡◌, ℕ, ◌+◌, ◌-◌, ◌*◌, ◌^◌, ◌<◌, ◌≤◌, List, sym, ap, ◌∙◌, arith}
 use Rattle.sources.specs.Blocks.{at, Inside, Uniform, Differing}
 use Rattle.files.specs.declared.format.Format.{Format}
 use Rattle.files.specs.Formats.{pins_of, code_of}
@@ -28,16 +28,14 @@ module _ (k : Format) (bs : List ℕ) (o : Obeys k bs) where
   found a = last_at (change_at k bs) a (change_count k bs)
 
   -- a block as the code has it: its first and last address, and the change that was found for the first
-  module _ (pins j p first last i : ℕ) (n : pins ≡ pins_of k bs) (h : Inside pins j p) (f : first ≡ p * 2 ^ (pins - j))
-      (l : last ≡ p * 2 ^ (pins - j) + (2 ^ (pins - j) - 1)) (e : i ≡ found first) where
+  module _ (j p first last i : ℕ) (h : Inside (pins_of k bs) j p) (f : first ≡ p * 2 ^ (pins_of k bs - j))
+      (l : last ≡ p * 2 ^ (pins_of k bs - j) + (2 ^ (pins_of k bs - j) - 1)) (e : i ≡ found first) where
     pub block_uniform : (c : ℕ) → c ≡ code_of k bs i → (i < change_count k bs → last < change_at k bs (i + 1)) → Uniform (pins_of k bs) (meaning k bs) j p c
     block_uniform c q past =
-        subst (λ (x : ℕ). Uniform x (meaning k bs) j p c) n
-        (uniform_like (changed k bs) (meaning k bs) (changes_mean k bs o.entries) j p c
-        (uniform (change_at k bs) (code_of k bs) (change_count k bs) (steps_of k bs o.entries) pins j p h i (e ∙ ap found f) c q (λ m. omega (arith, past m, l))))
+        uniform_like (changed k bs) (meaning k bs) (changes_mean k bs o.entries) j p c
+        (uniform (change_at k bs) (code_of k bs) (change_count k bs) (steps_of k bs o.entries) (pins_of k bs) j p h i (e ∙ ap found f) c q (λ m. omega (arith, past m, l)))
 
     pub block_differing : i < change_count k bs → change_at k bs (i + 1) ≤ last → Differing (pins_of k bs) (meaning k bs) j p
     block_differing more within =
-        subst (λ (x : ℕ). Differing x (meaning k bs) j p) n
-        (differing_like (changed k bs) (meaning k bs) (changes_mean k bs o.entries) j p
-        (differing (change_at k bs) (code_of k bs) (change_count k bs) (steps_of k bs o.entries) pins j p h i (e ∙ ap found f) more (omega (arith, within, l))))
+        differing_like (changed k bs) (meaning k bs) (changes_mean k bs o.entries) j p
+        (differing (change_at k bs) (code_of k bs) (change_count k bs) (steps_of k bs o.entries) (pins_of k bs) j p h i (e ∙ ap found f) more (omega (arith, within, l)))

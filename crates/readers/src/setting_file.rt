@@ -25,6 +25,7 @@ impl Kind for Settings {
         Format::Settings
     }
 
+    // Not `Setting::decode`: that refuses codes from 128 up, and `end` gives each code an end.
     fn end(code: u8) -> Setting {
         Setting {
             chip: code / 8 % 16,
