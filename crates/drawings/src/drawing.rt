@@ -16,10 +16,10 @@ const MOST_PINS: usize = 20;
 fn pin_bit(pins: usize, pin: u8) -> u32
     ensures { pins ≤ 20 → pin < pins → result ≡ bit_of pins pin }
 {
-    if pins > MOST_PINS || pin as usize >= pins {
+    if pins > MOST_PINS || usize::from(pin) >= pins {
         return 0;
     }
-    1 << (pins - 1 - pin as usize)
+    1 << (pins - 1 - usize::from(pin))
 }
 
 // A tree that is drawn in an order.
@@ -47,6 +47,7 @@ pub fn draw_tree(subject: Subject, growing: &mut Growing, fixed: FixedPins) -> O
     }
     let pins = subject.order.len();
     let FixedPins { place, bits } = fixed;
+    // By `as`: with `usize::from` each answer that follows would have to rewrite by its equation.
     if pins > MOST_PINS || place as usize >= pins {
         return None;
     }
@@ -74,22 +75,15 @@ pub fn draw_tree(subject: Subject, growing: &mut Growing, fixed: FixedPins) -> O
 
 // A root for what a tree means, beside what the held lines reach. None where no slot is left.
 pub fn draw_root(
-    tree: Tree,
-    records: &[Record],
-    order: &[u8],
+    subject: Subject,
     nodes: &mut [Node],
     work: &mut [u32],
     pins: u8,
     lines: &[Line],
 ) -> Option<Branch>
-    ensures { DrawsRoot tree records.now order.now nodes.old work.old pins lines.now nodes.new result }
+    ensures { DrawsRoot subject.entry.tree subject.entry.records.now subject.entry.order.now nodes.old work.old pins lines.now nodes.new result }
 {
     let mut growing = Growing::prepare(nodes, work, pins, lines);
-    let subject = Subject {
-        tree,
-        records,
-        order,
-    };
     let none = FixedPins {
         place: 0,
         bits: FixedBits { mask: 0, value: 0 },

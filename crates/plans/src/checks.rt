@@ -31,7 +31,7 @@ impl Header {
         Ok(())
     }
 
-    // What erase and count ask of their arguments.
+    // What erase, count and draw ask of a line and the tables.
     pub(crate) fn check_held(
         &self,
         line: u8,
@@ -69,7 +69,7 @@ impl Header {
         self.lines[line.number as usize]
     }
 
-    // The root of a held line; an empty one stops the call, and by a rule of the project does so in the other arm here.
+    // The root of a held line; an empty one stops the call. By `let .. else`, a form that the project asks for.
     pub(crate) fn root(&self, line: LineNumber) -> Result<Branch, Fault>
         ensures { MatchResult result (λ root. slice_index_or self.now.lines line.number None ≡ Some root) (λ f. (slice_index_or self.now.lines line.number None ≡ None) × (f ≡ at LineEmpty line.number)) }
     {

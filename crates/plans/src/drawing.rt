@@ -11,7 +11,7 @@ use crate::header::Header;
 use crate::line_number::LineNumber;
 use crate::marking::Marking;
 use crate::open::OpenPlan;
-use drawings::drawing::draw_root;
+use drawings::drawing::{Subject, draw_root};
 use ends::end::End;
 use faults::fault::{Fault, Ground};
 use model::{Branch, Node};
@@ -47,8 +47,12 @@ impl Header {
     ) -> Option<Branch>
         ensures { (f : Selection) → Built self.now.pins f records.now tree → Grows self.now.pins nodes.old work.old self.now.lines (view_of self.now.pins (order_of self.now) f) nodes.new result }
     {
-        let lines = self.lines;
-        draw_root(tree, records, self.order(), nodes, work, self.pins, &lines)
+        let subject = Subject {
+            tree,
+            records,
+            order: self.order(),
+        };
+        draw_root(subject, nodes, work, self.pins, &self.lines)
     }
 }
 

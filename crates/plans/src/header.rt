@@ -4,7 +4,7 @@ ghost use Rattle.plans.specs.Orders.{misplaced_below};
 
 use tables::line::Line;
 
-// The number of nodes that are reached from the held lines. A record of its own, so that it can be lent by itself.
+// The number of nodes that are reached from the held lines. A record of its own, a form that the project asks for: it is to be lent by itself.
 #[derive(Clone, Copy)]
 pub struct Usage {
     pub used: u16,

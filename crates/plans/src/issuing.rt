@@ -19,8 +19,7 @@ impl Header {
         ensures { Lists self.now nodes.now (length work.old) buffer.old result buffer.new }
     {
         self.check_tables(nodes.len(), work.len())?;
-        let lines = self.lines;
-        list_lines(nodes, work, self.order(), &lines, buffer)
+        list_lines(nodes, work, self.order(), &self.lines, buffer)
     }
 }
 

@@ -71,8 +71,7 @@ impl Header {
     ) -> Option<Branch>
         ensures { In left (held self.now.lines) → In right (held self.now.lines) → Grows self.now.pins nodes.old work.old self.now.lines (join_trees (code_join J.Of.End.decoded J.Of.End.code J.Joining.joined) (tree (listed nodes.old) self.now.pins 0 left) (tree (listed nodes.old) self.now.pins 0 right)) nodes.new result }
     {
-        let lines = self.lines;
-        join_roots(joining, nodes, work, self.pins, &lines, left, right)
+        join_roots(joining, nodes, work, self.pins, &self.lines, left, right)
     }
 }
 

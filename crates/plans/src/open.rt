@@ -4,4 +4,5 @@ use crate::plan::Plan;
 pub struct Open;
 
 // A plan that can be drawn on.
+// By a rule of the project each call is lent just the tables that it uses, so that nodes, records and work are parameters.
 pub type OpenPlan = Plan<Open>;

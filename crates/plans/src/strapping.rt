@@ -50,9 +50,8 @@ impl Header {
     ) -> Option<Branch>
         ensures { In root (held self.now.lines) → Grows self.now.pins nodes.old work.old self.now.lines (strap_tree (place_in (order_of self.now) pin) high (tree (listed nodes.old) self.now.pins 0 root)) nodes.new result }
     {
-        let lines = self.lines;
         let at = place_of_pin(self.order(), pin);
-        strap_root(nodes, work, self.pins, &lines, at, high, root)
+        strap_root(nodes, work, self.pins, &self.lines, at, high, root)
     }
 }
 
