@@ -62,9 +62,8 @@ impl OpenPlan {
     {
         let line = self.header.check_held(line, nodes.len(), work.len())?;
         let root = self.header.root(line)?;
-        let marks = &mut work[..nodes.len()];
         Ok(reached_count(
-            &mut Marking { nodes, marks },
+            &mut Marking::over(nodes, work),
             self.header.pins,
             &[Some(root)],
         ))

@@ -74,8 +74,7 @@ impl OpenPlan {
         self.header.check_vacant(line)?;
         let tree = build(source, records)?;
         let root = self.header.grow_tree(tree, records, nodes, work);
-        let marks = &mut work[..nodes.len()];
         self.header
-            .settle(line, root, &mut Marking { nodes, marks })
+            .settle(line, root, &mut Marking::over(nodes, work))
     }
 }

@@ -15,8 +15,7 @@ impl OpenPlan {
     {
         let line = self.header.check_held(line, nodes.len(), work.len())?;
         self.header.root(line)?;
-        let marks = &mut work[..nodes.len()];
-        self.header.put(line, None, &mut Marking { nodes, marks });
+        self.header.put(line, None, &mut Marking::over(nodes, work));
         Ok(())
     }
 }

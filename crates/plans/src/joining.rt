@@ -95,7 +95,7 @@ impl OpenPlan {
         self.header.check_codes::<J::Of>(a, left, nodes, work)?;
         self.header.check_codes::<J::Of>(b, right, nodes, work)?;
         let grown = self.header.grow_join(joining, left, right, nodes, work);
-        let marks = &mut work[..nodes.len()];
-        self.header.settle(d, grown, &mut Marking { nodes, marks })
+        self.header
+            .settle(d, grown, &mut Marking::over(nodes, work))
     }
 }

@@ -9,9 +9,21 @@ use tables::marking::{count_marks, mark_roots};
 #[derive(Drop)]
 pub(crate) struct Marking<'a> {
     pub(crate) nodes: &'a [Node],
-    pub(crate) marks: &'a mut [u32],
+    marks: &'a mut [u32],
     ghost few: { length nodes.now ≤ 4096 },
     ghost marked: { length marks.now ≡ length nodes.now },
+}
+
+impl<'a> Marking<'a> {
+    // The marks are at the front of the work table.
+    pub(crate) fn over(nodes: &'a [Node], work: &'a mut [u32]) -> Marking<'a>
+        requires few { length nodes.now ≤ 4096 }
+        requires room { length nodes.now ≤ length work.old }
+        ensures { result.nodes.now ≡ nodes.now }
+    {
+        let marks = &mut work[..nodes.len()];
+        Marking { nodes, marks }
+    }
 }
 
 // How many nodes are reached from some lines.

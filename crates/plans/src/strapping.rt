@@ -72,7 +72,7 @@ impl OpenPlan {
         let root = self.header.root(a)?;
         self.header.check_vacant(d)?;
         let grown = self.header.grow_strap(root, pin, high, nodes, work);
-        let marks = &mut work[..nodes.len()];
-        self.header.settle(d, grown, &mut Marking { nodes, marks })
+        self.header
+            .settle(d, grown, &mut Marking::over(nodes, work))
     }
 }

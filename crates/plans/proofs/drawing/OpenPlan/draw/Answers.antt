@@ -36,7 +36,7 @@ returns g c =
     let work = length c.args.work.now in
     let clear = rw c.pins.ensures at c.in_ok-line.ensures.told in
     let vacant = rw c.in_ok-line.ensures.same at c.in_ok-check_vacant.ensures in
-    let settled = rw c.in_ok-line.ensures.same at c.settle.ensures in
+    let settled = rw (c.over.ensures, c.in_ok-line.ensures.same) at c.settle.ensures in
     let written = c.in_ok-tree.ensures in
     let built = subst (λ (n : ℕ). Built n f c.build.new.table c.in_ok-tree.tree) (draw_pins h.pins h.size d m f (length nodes) tree work clear) written.built in
     drawn h nodes d m f tree work clear vacant written.room _ c.args.work.now refl _ _ _ (c.grow_tree-root.ensures f built) settled

@@ -12,5 +12,5 @@ returns-in_err-root c =
 pub returns : goal.returns
 returns c =
     let root = rw c.in_ok-line.ensures.same at c.in_ok-root.ensures in
-    let put = rw c.in_ok-line.ensures.same at c.put.ensures in
+    let put = rw (c.over.ensures, c.in_ok-line.ensures.same) at c.put.ensures in
     erase_held _ _ _ (length c.args.work.now) c.in_ok-line.ensures.told _ _ root put

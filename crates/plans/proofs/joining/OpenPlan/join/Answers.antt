@@ -50,7 +50,7 @@ returns g c =
     let vacant = rw c.in_ok-a.ensures.same.2 at c.in_ok-check_vacant.ensures in
     let passed_left = rw c.in_ok-a.ensures.same.0 at c.in_ok-check_codes.ensures in
     let passed_right = rw c.in_ok-a.ensures.same.1 at c.in_ok-check_codes-2.ensures in
-    let settled = rw c.in_ok-a.ensures.same.2 at c.settle.ensures in
+    let settled = rw (c.over.ensures, c.in_ok-a.ensures.same.2) at c.settle.ensures in
     let i = c.check_codes.auto.work in
     let j = c.check_codes-2.auto.work in
     joined_line _ _ _ _ _ _ _ (length c.args.work.now) c.in_ok-a.ensures.told _ left _ right vacant tt passed_left tt passed_right

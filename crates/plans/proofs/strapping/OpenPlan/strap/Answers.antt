@@ -20,5 +20,5 @@ pub returns : goal.returns
 returns c =
     let root = rw c.in_ok-a.ensures.same.0 at c.in_ok-root.ensures in
     let vacant = rw c.in_ok-a.ensures.same.1 at c.in_ok-check_vacant.ensures in
-    let settled = rw c.in_ok-a.ensures.same.1 at c.settle.ensures in
+    let settled = rw (c.over.ensures, c.in_ok-a.ensures.same.1) at c.settle.ensures in
     strapped_line _ _ _ _ _ _ (length c.args.work.now) c.in_ok-a.ensures.told _ root vacant _ c.args.work.now refl _ _ _ c.grow_strap-grown.ensures settled
