@@ -15,7 +15,7 @@ impl Header {
     pub(crate) fn order(&self) -> &[u8]
         ensures { result.now ≡ order_of self.now }
     {
-        let pins = self.pins as usize;
+        let pins = usize::from(self.pins);
         &self.order[0..pins]
     }
 

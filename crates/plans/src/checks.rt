@@ -25,7 +25,7 @@ impl Header {
         ensures { refusal result ≡ other_tables self.now.pins self.now.size nodes work }
     {
         self.check_nodes(nodes)?;
-        if work < 4 * (self.pins as usize + 1) * (self.size + 2) {
+        if work < 4 * (usize::from(self.pins) + 1) * (self.size + 2) {
             return Err(Ground::Work.at(work));
         }
         Ok(())
@@ -66,7 +66,7 @@ impl Header {
     fn line(&self, line: LineNumber) -> Line
         ensures { result ≡ slice_index_or self.now.lines line.number None }
     {
-        self.lines[line.number as usize]
+        self.lines[usize::from(line.number)]
     }
 
     // The root of a held line; an empty one stops the call. By `let .. else`, a form that the project asks for.
@@ -74,7 +74,7 @@ impl Header {
         ensures { MatchResult result (λ root. slice_index_or self.now.lines line.number None ≡ Some root) (λ f. (slice_index_or self.now.lines line.number None ≡ None) × (f ≡ at LineEmpty line.number)) }
     {
         let Some(root) = self.line(line) else {
-            return Err(Ground::LineEmpty.at(line.number as usize));
+            return Err(Ground::LineEmpty.at(usize::from(line.number)));
         };
         Ok(root)
     }
@@ -85,7 +85,7 @@ impl Header {
     {
         match self.line(line) {
             None => Ok(()),
-            Some(_) => Err(Ground::LineTaken.at(line.number as usize)),
+            Some(_) => Err(Ground::LineTaken.at(usize::from(line.number))),
         }
     }
 }

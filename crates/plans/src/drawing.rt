@@ -31,7 +31,7 @@ impl Header {
         ensures told { refusal result ≡ draw_refusal self.now.pins self.now.size pins line nodes work }
         ensures same { IfOk result (λ at. at.number ≡ line) }
     {
-        if pins != self.pins as u32 {
+        if pins != u32::from(self.pins) {
             return Err(Ground::SourcePins.at(pins as usize));
         }
         self.check_held(line, nodes, work)

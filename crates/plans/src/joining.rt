@@ -56,7 +56,7 @@ impl Header {
         if codes_pass::<E>(nodes, marks, self.pins, root) {
             Ok(())
         } else {
-            Err(Ground::Undecoded.at(line.number as usize))
+            Err(Ground::Undecoded.at(usize::from(line.number)))
         }
     }
 

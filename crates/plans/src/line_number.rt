@@ -17,7 +17,7 @@ impl LineNumber {
         ensures same { IfOk result (λ at. at.number ≡ line) }
     {
         if line > 31 {
-            return Err(Ground::NoLine.at(line as usize));
+            return Err(Ground::NoLine.at(usize::from(line)));
         }
         Ok(LineNumber { number: line })
     }

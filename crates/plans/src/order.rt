@@ -17,7 +17,7 @@ fn is_misplaced(order: &[u8], i: usize) -> bool
     requires { i < length order.now }
     ensures { result ≡ misplaced order.now i }
 {
-    order[i] as usize >= order.len() || is_among(order, order[i], i)
+    usize::from(order[i]) >= order.len() || is_among(order, order[i], i)
 }
 
 // The first position at which a pin is too large or repeated.

@@ -12,7 +12,7 @@ impl Header {
     pub(crate) fn put(&mut self, line: LineNumber, what: Line, over: &mut Marking)
         ensures { Put self.old over.old.nodes.now line.number what self.new }
     {
-        self.lines[line.number as usize] = what;
+        self.lines[usize::from(line.number)] = what;
         let used = reached_count(over, self.pins, &self.lines);
         self.usage = Usage { used };
     }

@@ -33,7 +33,7 @@ impl Header {
         let a = LineNumber::new(a)?;
         let d = LineNumber::new(d)?;
         if pin >= self.pins {
-            return Err(Ground::StrapPin.at(pin as usize));
+            return Err(Ground::StrapPin.at(usize::from(pin)));
         }
         self.check_tables(nodes, work)?;
         Ok((a, d))
