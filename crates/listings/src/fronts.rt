@@ -41,6 +41,7 @@ pub(crate) fn meet_lines(front: &mut Row<u32>, seen: &mut [u32], lines: &[Line])
 {
     front.clear();
     seen.fill(0);
+    // By `if let`: the library has no lemma of a loop over flattened options.
     for line in lines {
         if let Some(root) = *line {
             meet(front, seen, root);

@@ -6,8 +6,10 @@ use map_tests::samples::{bit_file, setting_file};
 use map_tests::truth::{bits, settings};
 use model::Node;
 use plans::open::OpenPlan;
-use readers::bit_file::BitFile;
-use readers::setting_file::SettingFile;
+use readers::bit_file::Bits;
+use readers::kind::Kind;
+use readers::map_file::MapFile;
+use readers::setting_file::Settings;
 use std::alloc::{AllocError, Global};
 use trees::tree::Record;
 
@@ -24,6 +26,18 @@ pub enum Step {
     Read(u8, u32),
     Same(u8, u8),
     Count(u8),
+}
+
+// A map file of any kind on a line.
+fn draw<K: Kind>(
+    plan: &mut OpenPlan,
+    bytes: &[u8],
+    d: u8,
+    nodes: &mut [Node],
+    records: &mut [Record],
+    work: &mut [u32],
+) -> Result<(), Fault> {
+    plan.draw(&MapFile::<K>::over(bytes), d, nodes, records, work)
 }
 
 // Each joining on the same lines.
@@ -58,18 +72,15 @@ pub fn run(
     Ok(match step {
         Step::Bits(pattern, d) => {
             let bytes = bit_file(heap, pins, &bits::<16>(pins, pattern))?;
-            plan.draw(&BitFile::over(&bytes), d, nodes, records, work)
-                .err()
+            draw::<Bits>(plan, &bytes, d, nodes, records, work).err()
         }
         Step::Settings(pattern, d) => {
             let bytes = setting_file(heap, pins, &settings::<16>(&SETTINGS, pins, pattern))?;
-            plan.draw(&SettingFile::over(&bytes), d, nodes, records, work)
-                .err()
+            draw::<Settings>(plan, &bytes, d, nodes, records, work).err()
         }
         Step::Other(pins, d) => {
             let bytes = bit_file(heap, pins, &[0; 16])?;
-            plan.draw(&BitFile::over(&bytes), d, nodes, records, work)
-                .err()
+            draw::<Bits>(plan, &bytes, d, nodes, records, work).err()
         }
         Step::Join(how, a, b, d) => join(plan, how, a, b, d, nodes, work).err(),
         Step::Strap(a, pin, high, d) => plan.strap(a, pin, high, d, nodes, work).err(),

@@ -1,9 +1,6 @@
 ghost use Rattle.std.specs.Prelude.{◌≡◌, None};
-ghost use Rattle.ends.specs.Codes.{bit_code, setting_code};
 ghost use Rattle.files.specs.Formats.{pins_of};
 ghost use Rattle.files.specs.Verdict.{fault};
-ghost use Rattle.files.specs.declared.format.Format.TheVariants.{Bits, Settings};
-ghost use Rattle.readers.specs.Selections.{bit_at, chip_at};
 ghost use Rattle.trees.specs.Mixed.{codes};
 ghost use Rattle.settled.specs.Reckonings.{Reckons};
 
@@ -12,8 +9,8 @@ use ends::end::End;
 use faults::fault::Fault;
 use model::Node;
 use plans::open::OpenPlan;
-use readers::bit_file::BitFile;
-use readers::setting_file::SettingFile;
+use readers::kind::Kind;
+use readers::map_file::MapFile;
 use sources::source::Source;
 use trees::build::build;
 use trees::tree::Record;
@@ -35,16 +32,9 @@ fn reckon<S: Source>(source: &S, order: &[u8]) -> Result<Reckoning, Fault>
     })
 }
 
-// The same of a switch file of bits.
-pub(crate) fn reckon_bits(bytes: &[u8], order: &[u8]) -> Result<Reckoning, Fault>
-    ensures { fault Bits bytes.now ≡ None → Reckons (pins_of Bits bytes.now) (codes bit_code (bit_at bytes.now)) order.now result }
+// The same of a map file of any kind.
+pub(crate) fn reckon_file<K: Kind>(bytes: &[u8], order: &[u8]) -> Result<Reckoning, Fault>
+    ensures { fault K.format bytes.now ≡ None → Reckons (pins_of K.format bytes.now) (codes K.Of.End.code (K.selection bytes.now)) order.now result }
 {
-    reckon(&BitFile::read(bytes)?, order)
-}
-
-// The same of a switch file of chip settings.
-pub(crate) fn reckon_settings(bytes: &[u8], order: &[u8]) -> Result<Reckoning, Fault>
-    ensures { fault Settings bytes.now ≡ None → Reckons (pins_of Settings bytes.now) (codes setting_code (chip_at bytes.now)) order.now result }
-{
-    reckon(&SettingFile::read(bytes)?, order)
+    reckon(&MapFile::<K>::read(bytes)?, order)
 }

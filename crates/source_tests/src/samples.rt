@@ -17,6 +17,7 @@ pub const ALL_BITS: [(usize, u64); 3] = [(1, 4), (2, 16), (3, 256)];
 // All tables of four settings of 1 and 2 pins.
 pub const ALL_SETTINGS: [(usize, u64); 2] = [(1, 16), (2, 256)];
 
+// Three makers that are alike, since the files are of three kinds, each with a writer of its own.
 pub fn settings(heap: Global, pins: usize, pattern: u64) -> Result<Sample, AllocError> {
     let codes = truth::settings(&SETTINGS, pins, pattern);
     let bytes = setting_file(heap, pins, &codes)?;

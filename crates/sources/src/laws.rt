@@ -35,6 +35,7 @@ pub fn mount_of_one_pin<S: Source<Of = bool> + Drop>(one: S) -> Result<[Answer<b
     ensures { S.Source.width one ≡ 1 → S.Source.selection one 0 ≡ false → S.Source.selection one 1 ≡ true → result ≡ Ok (All false ∷ All false ∷ All false ∷ All true ∷ []) }
 {
     let two = Mounted::new(one, 2, 1, false)?;
+    // Written out one by one, as the contract names the four answers.
     Ok([
         two.ask(Block {
             level: 2,

@@ -56,6 +56,7 @@ fn code_below(table: &[Record], half: Half, left: u32, address: u32) -> u16
 {
     match half {
         Half::Code(code) => code,
+        // 0 where an altered table leads nowhere, as `code_at` promises nothing of such a table.
         Half::Split(i) => {
             let Some(record) = table.get(i) else {
                 return 0;
