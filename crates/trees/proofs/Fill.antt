@@ -199,9 +199,6 @@ module _ (n : ℕ) (c : ℕ → ℕ) (t : List Record) (i len : ℕ) (d : Drafte
     unfolding front
     front_count = one.counted
 
-    pub low_within : m ≤ length u
-    low_within = one.filed.within
-
     pub high_full : length u ≡ length t → (fault : Fault) → Full n c (level + 1) (2 * block + 1) u m fault → Refused n c t fault
     high_full same fault f = record {
       told = f.told ∙ ap (at TreeTable) same;

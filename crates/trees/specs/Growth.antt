@@ -3,7 +3,7 @@ use Rattle.std.specs.Prelude.{◌≡◌, ℕ, ◌+◌, ◌*◌, ◌<◌, ◌≤�
 use Rattle.faults.specs.declared.fault.Fault.{Fault}
 use Rattle.faults.specs.declared.fault.Ground.TheVariants.{TreeTable}
 use Rattle.faults.specs.Refusals.{at}
-use Rattle.trees.specs.declared.build.Draft.{Draft}
+use Rattle.trees.specs.declared.draft.Draft.{Draft}
 use Rattle.trees.specs.declared.tree.Half.{Half}
 use Rattle.trees.specs.declared.tree.Half.TheVariants.{Code, Split}
 use Rattle.trees.specs.declared.tree.Record.{Record}

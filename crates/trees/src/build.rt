@@ -1,27 +1,17 @@
 ghost use Rattle.std.specs.Prelude.{◌≡◌, ◌+◌, ◌<◌, ◌≤◌, length};
 ghost use Rattle.sources.specs.Blocks.{Inside};
-ghost use Rattle.trees.specs.Growth.{fresh, with_halves, Keeps, Opens, Grows, Drafted, Advances};
+ghost use Rattle.trees.specs.Growth.{with_halves, Keeps, Grows, Drafted, Advances};
 ghost use Rattle.trees.specs.Mixed.{codes, block_code};
 ghost use Rattle.trees.specs.Records.{Builds};
 
+use crate::draft::Draft;
 use crate::tree::{Half, Record, Tree};
 use ends::end::End;
-use faults::fault::{Fault, Ground};
+use faults::fault::Fault;
 use sources::block::Block;
 use sources::source::{Answer, Source};
 
 impl Record {
-    // A block whose halves are not yet known.
-    fn undivided(block: Block) -> Record
-        ensures { result ≡ fresh block.level block.number }
-    {
-        Record {
-            block,
-            low: Half::Code(0),
-            high: Half::Code(0),
-        }
-    }
-
     // The block with its halves.
     fn divided(self, low: Half, high: Half) -> Record
         ensures { result ≡ with_halves self low high }
@@ -42,32 +32,9 @@ fn code_of<S: Source>(source: &S, block: Block) -> Option<u16>
     }
 }
 
-// The records of a tree while it grows: the first `len` of a lent table.
-#[derive(Drop)]
-struct Draft<'a> {
-    table: &'a mut [Record],
-    len: usize,
-}
-
-impl<'a> Draft<'a> {
-    // A new record for a block.
-    fn open(&mut self, block: Block) -> Result<Half, Fault>
-        ensures keeps { Keeps self.old self.new }
-        ensures opened { Opens block.level block.number self.old.table.now self.old.len self.new.table.now self.new.len result }
-    {
-        if self.len >= self.table.len() {
-            return Err(Ground::TreeTable.at(self.table.len()));
-        }
-        let half = Half::Split(self.len);
-        self.table[self.len] = Record::undivided(block);
-        self.len += 1;
-        Ok(half)
-    }
-}
-
 // What stands for a block, with a new record if the block is mixed.
 fn grow<S: Source>(source: &S, block: Block, draft: &mut Draft) -> Result<Half, Fault>
-    requires { (Inside (S.Source.width source.now) block.level block.number) × (draft.old.len ≤ length draft.old.table.now) }
+    requires { Inside (S.Source.width source.now) block.level block.number }
     ensures keeps { Keeps draft.old draft.new }
     ensures grown { Grows (S.Source.width source.now) (codes S.Of.End.code (S.Source.selection source.now)) block.level block.number draft.old.table.now draft.old.len draft.new.table.now draft.new.len result }
 {

@@ -1,6 +1,6 @@
 use Rattle.std.proofs.lemmas.Result.{err_from_is_err_and}
 use Rattle.trees.proofs.Differ.{low_inside, high_inside}
-use Rattle.trees.proofs.Fill.{level_below, block_below, level_fits, low_fits, high_fits, low_full, low_within, high_full, divide_done}
+use Rattle.trees.proofs.Fill.{level_below, block_below, level_fits, low_fits, high_fits, low_full, high_full, divide_done}
 use Rattle.trees.proofs.build.divide.Goals as goal
 
 pub overflow_add-low : goal.overflow_add-low
@@ -13,11 +13,11 @@ pub overflow_add-high : goal.overflow_add-high
 overflow_add-high g c = high_fits _ _ _ c.args.i c.args.draft.now.len c.requires.0 c.requires.1 (g.S.Source.few c.args.source.now)
 
 pub grow-requires : goal.grow-requires
-grow-requires g c = (low_inside _ _ _ (level_below _ _ _ c.args.i c.args.draft.now.len c.requires.0 c.requires.1) (block_below _ _ _ c.args.i c.args.draft.now.len c.requires.0 c.requires.1), c.requires.0.filed.within)
+grow-requires g c = low_inside _ _ _ (level_below _ _ _ c.args.i c.args.draft.now.len c.requires.0 c.requires.1) (block_below _ _ _ c.args.i c.args.draft.now.len c.requires.0 c.requires.1)
 
 pub grow-requires-2 : goal.grow-requires-2
 grow-requires-2 g c =
-    (high_inside _ _ _ (level_below _ _ _ c.args.i c.args.draft.now.len c.requires.0 c.requires.1) (block_below _ _ _ c.args.i c.args.draft.now.len c.requires.0 c.requires.1), low_within _ _ _ c.args.i c.args.draft.now.len c.requires.0 c.requires.1 _ c.in_ok-low.low c.grow.new.draft.len c.in_ok-low.ensures.grown)
+    high_inside _ _ _ (level_below _ _ _ c.args.i c.args.draft.now.len c.requires.0 c.requires.1) (block_below _ _ _ c.args.i c.args.draft.now.len c.requires.0 c.requires.1)
 
 pub returns-clause-divided : goal.returns-clause-divided
 returns-clause-divided g c =
