@@ -18,11 +18,7 @@ impl End for Lamp {
     ghost only = { Prim.search rules };
 
     fn encode(self) -> u16 {
-        match self {
-            Lamp::Off => 0,
-            Lamp::Dim => 1,
-            Lamp::Bright => 2,
-        }
+        self as u16
     }
 
     fn decode(n: u16) -> Option<Lamp> {

@@ -2,7 +2,7 @@
 use Rattle.std.proofs.Common.{◌≡◌, ℕ, ◌+◌, ◌-◌, ◌*◌, ◌^◌, ◌<◌, ◌≤◌, true, false, ◌≢◌, List, [], ◌∷◌, ◌++◌, map, length, get_or, take, drop, set, sym, refl, ap, ◌∙◌, subst, inl, inr, arith, w32, Fits}
 use lib.Pow.{pow-lt}
 use Rattle.std.proofs.ByRecursion.{All-get_or}
-use Rattle.std.proofs.lemmas.List.{append_assoc, length-append, length-set, length-take-le, length-drop, length-map, get_or_at, get_or-set_same, get_or-set_other, get_or-take, get_or-drop, get_or-map, ext_get_or}
+use Rattle.std.proofs.lemmas.List.{append_assoc, length-append, length-take-le, length-drop, length-map, get_or_at, get_or-set_same, get_or-set_other, get_or-take, get_or-drop, get_or-map, ext_get_or}
 use Rattle.std.proofs.lemmas.Bool.{cond-true, cond-false}
 use Rattle.std.proofs.lemmas.Bool.Decides.{eqb_tells}
 use Rattle.faults.specs.declared.fault.Fault.{Fault}
@@ -75,7 +75,6 @@ module _ (n : ℕ) (c : ℕ → ℕ) (j p : ℕ) (front rest : List Block) (whol
       pushed_step = record {
         filed = record {
           begun = omega (arith, f.begun);
-          within = omega (arith, length-set t len (fresh j p));
           level_is = push (λ r. r.block.level) (λ b. b.0) f.level_is refl;
           block_is = push (λ r. r.block.number) (λ b. b.1) f.block_is refl;
           whole = λ k h. old_at k (omega (arith, f.begun)) ∙ f.whole k h;
@@ -100,12 +99,12 @@ module _ (n : ℕ) (c : ℕ → ℕ) (j p : ℕ) (front rest : List Block) (whol
         subst (λ (x : ℕ). Step (Split x) u m) (sym g.index_is) (subst (λ (x : List Record). Step (Split len) x m) (sym g.put) (subst (λ (x : ℕ). Step (Split len) (pushed g.room (none_mixed n c j p g.two_codes)) x) (sym g.more_len) (pushed_step g.room (none_mixed n c j p g.two_codes))))
 
 -- record i gets its halves
-module _ (n : ℕ) (c : ℕ → ℕ) (t : List Record) (i len : ℕ) (f : Filed n c t i len) (here : i < len) (r : Record) (is : r ≡ divided n c (block_at n c i)) where
+module _ (n : ℕ) (c : ℕ → ℕ) (t : List Record) (i len : ℕ) (f : Filed n c t i len) (here : i < len) (within : len ≤ length t) (r : Record) (is : r ≡ divided n c (block_at n c i)) where
   abbrev filled : List Record
   filled = set t i r
 
   at_i : record_at filled i ≡ divided n c (block_at n c i)
-  at_i = set_same t i r (omega (arith, f.within)) ∙ is
+  at_i = set_same t i r (omega (arith, within)) ∙ is
 
   keep : (F : Record → ℕ) (G : Block → ℕ) → ((k : ℕ) → k < len → F (record_at t k) ≡ G (block_at n c k)) → F (divided n c (block_at n c i)) ≡ G (block_at n c i) → (k : ℕ) → k < len → F (record_at filled k) ≡ G (block_at n c k)
   keep F G below now k h =
@@ -125,7 +124,6 @@ module _ (n : ℕ) (c : ℕ → ℕ) (t : List Record) (i len : ℕ) (f : Filed 
   unfolding divided
   filled_filed = record {
     begun = omega arith;
-    within = omega (arith, f.within, length-set t i r);
     level_is = keep (λ x. x.block.level) (λ b. b.0) f.level_is refl;
     block_is = keep (λ x. x.block.number) (λ b. b.1) f.block_is refl;
     whole = filled_whole;
@@ -205,15 +203,15 @@ module _ (n : ℕ) (c : ℕ → ℕ) (t : List Record) (i len : ℕ) (d : Drafte
       over = omega (arith, same, f.no_room, front_count, next_in n c (level + 1) (2 * block + 1) front more.0 high_whole (none_mixed n c (level + 1) (2 * block + 1) f.two_codes));
     }
 
-    pub divide_done : (v : List Record) (h : Half) (q : ℕ) (r : Record) → Grown n c (level + 1) (2 * block + 1) u m h v q → r ≡ with_halves (record_at t i) l h → Advanced n c t len (set v i r) (i + 1) q
+    pub divide_done : (v : List Record) (h : Half) (q : ℕ) (r : Record) → q ≤ length v → Grown n c (level + 1) (2 * block + 1) u m h v q → r ≡ with_halves (record_at t i) l h → Advanced n c t len (set v i r) (i + 1) q
     unfolding divided
-    divide_done v h q r g' e =
+    divide_done v h q r within g' e =
         let two = step n c (level + 1) (2 * block + 1) front more.0 high_whole u i m one.filed front_count h v q g' in
         let is : r ≡ divided n c (level, block) = e ∙ ap (λ (x : Half). with_halves (record_at t i) x h) one.half_is ∙ ap (with_halves (record_at t i) (half n c (level + 1) (2 * block))) two.half_is in
         let i_in : i < q = omega (arith, one.more, two.more) in
         record {
           drafted = record {
-            filed = filled_filed n c v i q two.filed i_in r (is ∙ ap (divided n c) key);
+            filed = filled_filed n c v i q two.filed i_in within r (is ∙ ap (divided n c) key);
             counted = two.counted ∙ ap length opened_next;
           };
           more = omega (arith, one.more, two.more);
@@ -236,7 +234,6 @@ module _ (n : ℕ) (c : ℕ → ℕ) (t : List Record) where
   empty : Filed n c t 0 0
   empty = record {
     begun = omega arith;
-    within = omega arith;
     level_is = λ k h. absurd (omega arith);
     block_is = λ k h. absurd (omega arith);
     whole = λ k h. absurd (omega arith);
@@ -266,7 +263,7 @@ pub no_rows : (n : ℕ) (c : ℕ → ℕ) → 0 ≡ length (rows n c 0)
 no_rows n c = ap length (sym (rows_none n c))
 
 -- all is divided
-module _ (n : ℕ) (c : ℕ → ℕ) (t v : List Record) (done len : ℕ) (d : Drafted n c v done len) (e : done ≡ length (rows n c n)) (same : length v ≡ length t) (past : Untouched t v len) where
+module _ (n : ℕ) (c : ℕ → ℕ) (t v : List Record) (done len : ℕ) (d : Drafted n c v done len) (e : done ≡ length (rows n c n)) (within : len ≤ length v) (same : length v ≡ length t) (past : Untouched t v len) where
   all_done : done ≡ length (mixed_blocks n c)
   all_done = e ∙ ap length (rows_all n c)
 
@@ -276,12 +273,12 @@ module _ (n : ℕ) (c : ℕ → ℕ) (t v : List Record) (done len : ℕ) (d : D
   whole_records : take len v ≡ records n c
   unfolding records
   whole_records =
-      ext_get_or blank (take len v) (map (divided n c) (mixed_blocks n c)) (length-take-le len v d.filed.within ∙ all_len ∙ sym (length-map (mixed_blocks n c) (divided n c)))
-      (λ k h. let l : k < len = omega (arith, h, length-take-le len v d.filed.within) in get_or-take len v k blank l ∙ d.filed.whole k (omega (arith, all_done, all_len)) ∙ sym (get_or-map (divided n c) (mixed_blocks n c) k (0, 0) blank (omega (arith, all_len))))
+      ext_get_or blank (take len v) (map (divided n c) (mixed_blocks n c)) (length-take-le len v within ∙ all_len ∙ sym (length-map (mixed_blocks n c) (divided n c)))
+      (λ k h. let l : k < len = omega (arith, h, length-take-le len v within) in get_or-take len v k blank l ∙ d.filed.whole k (omega (arith, all_done, all_len)) ∙ sym (get_or-map (divided n c) (mixed_blocks n c) k (0, 0) blank (omega (arith, all_len))))
 
   pub written : (pins : ℕ) (root : Half) → n ≤ 20 → pins ≡ n → root ≡ half n c 0 0 → Written n c t v (record { pins = pins; root = root; len = len })
   written pins root few p r = record {
-    room = omega (arith, d.filed.within, all_len, same);
+    room = omega (arith, within, all_len, same);
     built = record { few = few; pins = p; root = r; len = all_len; listed = whole_records };
     past =
         ext_get_or blank (drop len v) (drop len t) (length-drop len v ∙ ap (λ x. x - len) same ∙ sym (length-drop len t))

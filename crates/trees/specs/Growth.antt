@@ -89,7 +89,6 @@ Opens j p before len after m (Err fault) = (fault ≡ at TreeTable (length befor
 -- the table has the first len blocks, of which the first done have their halves
 pub record Filed (n : ℕ) (c : ℕ → ℕ) (t : List Record) (done len : ℕ) : Type 0 where
   pub begun : done ≤ len
-  pub within : len ≤ length t
   pub level_is : (k : ℕ) → k < len → (record_at t k).block.level ≡ (block_at n c k).0
   pub block_is : (k : ℕ) → k < len → (record_at t k).block.number ≡ (block_at n c k).1
   pub whole : (k : ℕ) → k < done → record_at t k ≡ divided n c (block_at n c k)

@@ -59,5 +59,5 @@ returns g c =
     let root = grown_root _ _ _ _ _ _ _ c.whole.ensures c.in_ok-root.ensures.grown in
     let same = sym (i.2.0 ∙ c.in_ok-root.ensures.keeps.0) in
     moved _ _ _ c.loop-level.draft.table.now _ _ (search rules)
-    (written n f c.args.table.now c.loop-level.draft.table.now c.loop-level.done c.loop-level.draft.len i.0.drafted all (i.2.1 ∙ c.in_ok-root.ensures.keeps.1)
+    (written n f c.args.table.now c.loop-level.draft.table.now c.loop-level.done c.loop-level.draft.len i.0.drafted all c.loop-level.draft.inside (i.2.1 ∙ c.in_ok-root.ensures.keeps.1)
     (λ k w. i.0.untouched k w ∙ root_untouched n f c.args.table.now c.grow.new.draft.table.now c.in_ok-root.root c.grow.new.draft.len root k (omega (arith, i.0.more))) c.pins-pins.result c.in_ok-root.root (g.S.Source.few s) c.pins-pins.ensures (root_is n f c.args.table.now c.grow.new.draft.table.now c.in_ok-root.root c.grow.new.draft.len root))

@@ -21,7 +21,7 @@ grow-requires-2 g c =
 
 pub returns-clause-divided : goal.returns-clause-divided
 returns-clause-divided g c =
-    divide_done _ _ _ c.args.i c.args.draft.now.len c.requires.0 c.requires.1 _ c.in_ok-low.low c.grow.new.draft.len c.in_ok-low.ensures.grown _ c.in_ok-high.high c.grow-2.new.draft.len c.divided.result c.in_ok-high.ensures.grown c.divided.ensures
+    divide_done _ _ _ c.args.i c.args.draft.now.len c.requires.0 c.requires.1 _ c.in_ok-low.low c.grow.new.draft.len c.in_ok-low.ensures.grown _ c.in_ok-high.high c.grow-2.new.draft.len c.divided.result c.grow-2.new.draft.inside c.in_ok-high.ensures.grown c.divided.ensures
 
 pub returns-in_err-low-clause-divided : goal.returns-in_err-low-clause-divided
 returns-in_err-low-clause-divided g c =
