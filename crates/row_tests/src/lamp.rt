@@ -1,5 +1,5 @@
 // How brightly a lamp burns.
-#[derive(Clone, Copy)]
+#[derive(Clone, Copy, PartialEq, Eq, PartialOrd, Ord)]
 pub enum Lamp {
     Off,
     Dim,

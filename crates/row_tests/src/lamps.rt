@@ -37,12 +37,6 @@ impl Joining for Brighter {
     ghost joined = { brighter };
 
     fn join(&self, left: Lamp, right: Lamp) -> Lamp {
-        match (left, right) {
-            (Lamp::Off, _) => right,
-            (Lamp::Dim, Lamp::Off) => Lamp::Dim,
-            (Lamp::Dim, Lamp::Dim) => Lamp::Dim,
-            (Lamp::Dim, Lamp::Bright) => Lamp::Bright,
-            (Lamp::Bright, _) => Lamp::Bright,
-        }
+        left.max(right)
     }
 }
