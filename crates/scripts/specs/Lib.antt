@@ -1,0 +1,5 @@
+pub mod Mistakes
+pub mod Words
+pub mod Numbers
+pub mod Requests
+pub mod Grammar

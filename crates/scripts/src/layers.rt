@@ -1,0 +1,96 @@
+// The layers over a map file, first with the fill as a number.
+ghost use Rattle.std.specs.Prelude.{◌≡◌};
+ghost use Rattle.scripts.specs.Grammar.{flipped_at, mounted_at, end_of, mount_of, layers_of, map_of};
+ghost use Rattle.scripts.specs.Mistakes.{Gives};
+ghost use Rattle.scripts.specs.Words.{words};
+
+use crate::mistake::{Mistake, ParseError};
+use crate::parts::{address_at, code_at, key_at};
+use crate::request::{Layers, Map, Mount};
+use ends::end::End;
+use ends::setting::Setting;
+use files::format::Format;
+
+#[tactic(auto, unfolding(crate::specs::Grammar::flipped_at))]
+pub(crate) fn flipped_at(text: &[u8]) -> Result<(Option<u32>, &[u8]), ParseError>
+    ensures { Gives (λ x. (x.0, words x.1.now)) result (flipped_at (words text.now)) }
+{
+    let (is_flipped, text) = key_at(text, b"flipped");
+    if !is_flipped {
+        return Ok((None, text));
+    }
+    let (mask, text) = address_at(text)?;
+    Ok((Some(mask), text))
+}
+
+#[tactic(auto, unfolding(crate::specs::Grammar::mounted_at))]
+pub(crate) fn mounted_at(text: &[u8]) -> Result<(Option<Mount<u16>>, &[u8]), ParseError>
+    ensures { Gives (λ x. (x.0, words x.1.now)) result (mounted_at (words text.now)) }
+{
+    let (is_mounted, text) = key_at(text, b"mounted");
+    if !is_mounted {
+        return Ok((None, text));
+    }
+    let (pins, text) = address_at(text)?;
+    let (base, text) = address_at(text)?;
+    let (fill, text) = code_at(text)?;
+    Ok((Some(Mount { pins, base, fill }), text))
+}
+
+fn end_of<E: End>(code: u16) -> Result<E, Mistake>
+    ensures { result ≡ end_of E.End.decoded code }
+{
+    match E::decode(code) {
+        Some(end) => Ok(end),
+        None => Err(Mistake::NoEnd),
+    }
+}
+
+fn mount_of<E: End>(mounted: Option<Mount<u16>>) -> Result<Option<Mount<E>>, Mistake>
+    ensures { result ≡ mount_of E.End.decoded mounted }
+{
+    let Some(mount) = mounted else {
+        return Ok(None);
+    };
+    let fill = end_of(mount.fill)?;
+    Ok(Some(Mount {
+        pins: mount.pins,
+        base: mount.base,
+        fill,
+    }))
+}
+
+#[tactic(auto, unfolding(crate::specs::Grammar::layers_of))]
+fn layers_of<E: End>(layers: Layers<u16>) -> Result<Layers<E>, Mistake>
+    ensures { result ≡ layers_of E.End.decoded layers }
+{
+    let mounted = mount_of(layers.mounted)?;
+    Ok(Layers {
+        flipped: layers.flipped,
+        mounted,
+    })
+}
+
+// A map of some kind, with its fill an end of the kind.
+#[tactic(auto, unfolding(crate::specs::Grammar::map_of))]
+pub(crate) fn map_of(format: Format, inverted: bool, layers: Layers<u16>) -> Result<Map, Mistake>
+    ensures { result ≡ map_of format inverted layers }
+{
+    match format {
+        Format::Bits => {
+            let layers = layers_of(layers)?;
+            Ok(Map::Bits { inverted, layers })
+        }
+        Format::Settings => {
+            if inverted {
+                return Err(Mistake::InvertedSettings);
+            }
+            let layers = layers_of::<Setting>(layers)?;
+            Ok(Map::Settings { layers })
+        }
+        Format::Ranges => {
+            let layers = layers_of(layers)?;
+            Ok(Map::Ranges { inverted, layers })
+        }
+    }
+}
