@@ -16,7 +16,7 @@ use Rattle.scripts.specs.declared.request.Map.TheVariants as map
 use Rattle.scripts.specs.declared.request.Mount.{Mount}
 use Rattle.scripts.specs.Mistakes.{◌>>=◌}
 use Rattle.scripts.specs.Numbers.{number}
-use Rattle.scripts.specs.Requests.{Asked, plan, tables, draw, join, strap, erase, read, same, used, count, issue, reopen, list}
+use Rattle.scripts.specs.Requests.{Act, Asked, plan, tables, act, draw, join, strap, erase, read, same, used, count, issue, reopen, list}
 use Rattle.scripts.specs.Words.{Word}
 
 -- Parts: what stands at the front of some words, and the words behind it.
@@ -183,7 +183,7 @@ tables_call ws = do
   Ok (tables records.0 work.0)
 
 -- draw LINE [inverted] [flipped MASK] [mounted PINS BASE FILL] bits|settings|ranges FILE
-unfoldable pub draw_call : List Word → Result Asked Mistake
+unfoldable pub draw_call : List Word → Result Act Mistake
 draw_call ws = do
   line ← byte_at ws
   let inverted = key_at (codes "inverted") line.1
@@ -196,7 +196,7 @@ draw_call ws = do
   Ok (draw line.0 map file.0)
 
 -- join both|either|differ|overlay LEFT RIGHT LINE
-unfoldable pub join_call : List Word → Result Asked Mistake
+unfoldable pub join_call : List Word → Result Act Mistake
 join_call ws = do
   how ← named_at how_of ws
   left ← byte_at how.1
@@ -206,7 +206,7 @@ join_call ws = do
   Ok (join how.0 left.0 right.0 line.0)
 
 -- strap FROM PIN low|high LINE
-unfoldable pub strap_call : List Word → Result Asked Mistake
+unfoldable pub strap_call : List Word → Result Act Mistake
 strap_call ws = do
   from ← byte_at ws
   pin ← byte_at from.1
@@ -223,7 +223,7 @@ line_only ws = do
   Ok line.0
 
 -- read LINE ADDRESS
-unfoldable pub read_call : List Word → Result Asked Mistake
+unfoldable pub read_call : List Word → Result Act Mistake
 read_call ws = do
   line ← byte_at ws
   address ← address_at line.1
@@ -231,7 +231,7 @@ read_call ws = do
   Ok (read line.0 address.0)
 
 -- same LEFT RIGHT
-unfoldable pub same_call : List Word → Result Asked Mistake
+unfoldable pub same_call : List Word → Result Act Mistake
 same_call ws = do
   left ← byte_at ws
   right ← byte_at left.1
@@ -239,26 +239,31 @@ same_call ws = do
   Ok (same left.0 right.0)
 
 -- list, or list FILE
-unfoldable pub list_call : List Word → Result Asked Mistake
+unfoldable pub list_call : List Word → Result Act Mistake
 list_call [] = Ok (list None)
 list_call (file ∷ ws) = do
   _ ← nothing ws
   Ok (list (Some file))
 
+-- on a plan
+abbrev pub on_plan : Result Act Mistake → Result Asked Mistake
+on_plan r = r >>= λ a. Ok (act a)
+
+-- by the name
 unfoldable pub call : Verb → List Word → Result Asked Mistake
 call verb.Plan ws = plan_call ws
 call verb.Tables ws = tables_call ws
-call verb.Draw ws = draw_call ws
-call verb.Join ws = join_call ws
-call verb.Strap ws = strap_call ws
-call verb.Erase ws = line_only ws >>= λ line. Ok (erase line)
-call verb.Read ws = read_call ws
-call verb.Same ws = same_call ws
-call verb.Used ws = nothing ws >>= λ _. Ok used
-call verb.Count ws = line_only ws >>= λ line. Ok (count line)
-call verb.Issue ws = nothing ws >>= λ _. Ok issue
-call verb.Reopen ws = nothing ws >>= λ _. Ok reopen
-call verb.List ws = list_call ws
+call verb.Draw ws = on_plan (draw_call ws)
+call verb.Join ws = on_plan (join_call ws)
+call verb.Strap ws = on_plan (strap_call ws)
+call verb.Erase ws = line_only ws >>= λ line. Ok (act (erase line))
+call verb.Read ws = on_plan (read_call ws)
+call verb.Same ws = on_plan (same_call ws)
+call verb.Used ws = nothing ws >>= λ _. Ok (act used)
+call verb.Count ws = line_only ws >>= λ line. Ok (act (count line))
+call verb.Issue ws = nothing ws >>= λ _. Ok (act issue)
+call verb.Reopen ws = nothing ws >>= λ _. Ok (act reopen)
+call verb.List ws = on_plan (list_call ws)
 
 -- what a line of these words asks for
 unfoldable pub request : List Word → Result (Option Asked) Mistake

@@ -1,39 +1,48 @@
 -- Requests without where their parts lie in memory.
 use Rattle.std.specs.Prelude.{ℕ, Bool, List, Some, None, Option}
+use Rattle.scripts.specs.declared.request.Call.{Call}
+use Rattle.scripts.specs.declared.request.Call.TheVariants as call
 use Rattle.scripts.specs.declared.request.How.{How}
 use Rattle.scripts.specs.declared.request.Map.{Map}
 use Rattle.scripts.specs.declared.request.Request.{Request}
 use Rattle.scripts.specs.declared.request.Request.TheVariants as request
 use Rattle.scripts.specs.Words.{Word}
 
--- a request, with an order as a list and a file by its name
+-- a call, with a file by its name
+pub data Act : Type 0 where
+  draw : (line : ℕ) (map : Map) (file : Word) → Act
+  join : (how : How) (left right line : ℕ) → Act
+  strap : (from pin : ℕ) (high : Bool) (line : ℕ) → Act
+  erase : (line : ℕ) → Act
+  read : (line address : ℕ) → Act
+  same : (left right : ℕ) → Act
+  used : Act
+  count : (line : ℕ) → Act
+  issue : Act
+  reopen : Act
+  list : (file : Option Word) → Act
+
+-- a request, with an order as a list
 pub data Asked : Type 0 where
   plan : (nodes : ℕ) (order : List ℕ) → Asked
   tables : (records work : ℕ) → Asked
-  draw : (line : ℕ) (map : Map) (file : Word) → Asked
-  join : (how : How) (left right line : ℕ) → Asked
-  strap : (from pin : ℕ) (high : Bool) (line : ℕ) → Asked
-  erase : (line : ℕ) → Asked
-  read : (line address : ℕ) → Asked
-  same : (left right : ℕ) → Asked
-  used : Asked
-  count : (line : ℕ) → Asked
-  issue : Asked
-  reopen : Asked
-  list : (file : Option Word) → Asked
+  act : Act → Asked
+
+abbrev pub act_of : Call → Act
+act_of (call.Draw line map file) = draw line map file.items
+act_of (call.Join how left right line) = join how left right line
+act_of (call.Strap from pin high line) = strap from pin high line
+act_of (call.Erase line) = erase line
+act_of (call.Read line address) = read line address
+act_of (call.Same left right) = same left right
+act_of call.Used = used
+act_of (call.Count line) = count line
+act_of call.Issue = issue
+act_of call.Reopen = reopen
+act_of (call.List None) = list None
+act_of (call.List (Some file)) = list (Some file.items)
 
 abbrev pub asked : Request → Asked
 asked (request.Plan nodes order) = plan nodes order.items
 asked (request.Tables records work) = tables records work
-asked (request.Draw line map file) = draw line map file.items
-asked (request.Join how left right line) = join how left right line
-asked (request.Strap from pin high line) = strap from pin high line
-asked (request.Erase line) = erase line
-asked (request.Read line address) = read line address
-asked (request.Same left right) = same left right
-asked request.Used = used
-asked (request.Count line) = count line
-asked request.Issue = issue
-asked request.Reopen = reopen
-asked (request.List None) = list None
-asked (request.List (Some file)) = list (Some file.items)
+asked (request.Call c) = act (act_of c)

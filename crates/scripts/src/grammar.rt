@@ -2,7 +2,7 @@
 ghost use Rattle.scripts.specs.Numbers.{number};
 ghost use Rattle.scripts.specs.Grammar.{pins_of, plan_call, tables_call, draw_call, join_call, strap_call, line_only, read_call, same_call, list_call, call};
 ghost use Rattle.scripts.specs.Mistakes.{Gives};
-ghost use Rattle.scripts.specs.Requests.{asked};
+ghost use Rattle.scripts.specs.Requests.{act_of, asked};
 ghost use Rattle.scripts.specs.Words.{words};
 
 use crate::digits::number_of;
@@ -10,7 +10,7 @@ use crate::layers::{flipped_at, map_of, mounted_at};
 use crate::mistake::ParseError;
 use crate::names::{Verb, format_at, how_at, level_at};
 use crate::parts::{address_at, byte_at, end, key_at, length_at, word_at};
-use crate::request::{Layers, Request};
+use crate::request::{Call, Layers, Request};
 use crate::word::next_word;
 use std::alloc::Global;
 
@@ -54,8 +54,8 @@ fn tables_at(text: &[u8]) -> Result<Request, ParseError>
 }
 
 #[tactic(auto, unfolding(crate::specs::Grammar::draw_call))]
-fn draw_at(heap: Global, text: &[u8]) -> Result<Request, ParseError>
-    ensures { Gives asked result (draw_call (words text.now)) }
+fn draw_at(heap: Global, text: &[u8]) -> Result<Call, ParseError>
+    ensures { Gives act_of result (draw_call (words text.now)) }
 {
     let (line, text) = byte_at(text)?;
     let (inverted, text) = key_at(text, b"inverted");
@@ -66,19 +66,19 @@ fn draw_at(heap: Global, text: &[u8]) -> Result<Request, ParseError>
     end(text)?;
     let map = map_of(format, inverted, Layers { flipped, mounted })?;
     let file = Vec::from_slice(heap, file)?;
-    Ok(Request::Draw { line, map, file })
+    Ok(Call::Draw { line, map, file })
 }
 
 #[tactic(auto, unfolding(crate::specs::Grammar::join_call))]
-fn join_at(text: &[u8]) -> Result<Request, ParseError>
-    ensures { Gives asked result (join_call (words text.now)) }
+fn join_at(text: &[u8]) -> Result<Call, ParseError>
+    ensures { Gives act_of result (join_call (words text.now)) }
 {
     let (how, text) = how_at(text)?;
     let (left, text) = byte_at(text)?;
     let (right, text) = byte_at(text)?;
     let (line, text) = byte_at(text)?;
     end(text)?;
-    Ok(Request::Join {
+    Ok(Call::Join {
         how,
         left,
         right,
@@ -87,15 +87,15 @@ fn join_at(text: &[u8]) -> Result<Request, ParseError>
 }
 
 #[tactic(auto, unfolding(crate::specs::Grammar::strap_call))]
-fn strap_at(text: &[u8]) -> Result<Request, ParseError>
-    ensures { Gives asked result (strap_call (words text.now)) }
+fn strap_at(text: &[u8]) -> Result<Call, ParseError>
+    ensures { Gives act_of result (strap_call (words text.now)) }
 {
     let (from, text) = byte_at(text)?;
     let (pin, text) = byte_at(text)?;
     let (high, text) = level_at(text)?;
     let (line, text) = byte_at(text)?;
     end(text)?;
-    Ok(Request::Strap {
+    Ok(Call::Strap {
         from,
         pin,
         high,
@@ -114,35 +114,35 @@ fn line_only(text: &[u8]) -> Result<u8, ParseError>
 }
 
 #[tactic(auto, unfolding(crate::specs::Grammar::read_call))]
-fn read_at(text: &[u8]) -> Result<Request, ParseError>
-    ensures { Gives asked result (read_call (words text.now)) }
+fn read_at(text: &[u8]) -> Result<Call, ParseError>
+    ensures { Gives act_of result (read_call (words text.now)) }
 {
     let (line, text) = byte_at(text)?;
     let (address, text) = address_at(text)?;
     end(text)?;
-    Ok(Request::Read { line, address })
+    Ok(Call::Read { line, address })
 }
 
 #[tactic(auto, unfolding(crate::specs::Grammar::same_call))]
-fn same_at(text: &[u8]) -> Result<Request, ParseError>
-    ensures { Gives asked result (same_call (words text.now)) }
+fn same_at(text: &[u8]) -> Result<Call, ParseError>
+    ensures { Gives act_of result (same_call (words text.now)) }
 {
     let (left, text) = byte_at(text)?;
     let (right, text) = byte_at(text)?;
     end(text)?;
-    Ok(Request::Same { left, right })
+    Ok(Call::Same { left, right })
 }
 
 #[tactic(auto, unfolding(crate::specs::Grammar::list_call))]
-fn list_at(heap: Global, text: &[u8]) -> Result<Request, ParseError>
-    ensures { Gives asked result (list_call (words text.now)) }
+fn list_at(heap: Global, text: &[u8]) -> Result<Call, ParseError>
+    ensures { Gives act_of result (list_call (words text.now)) }
 {
     let Some((file, text)) = next_word(text) else {
-        return Ok(Request::List { file: None });
+        return Ok(Call::List { file: None });
     };
     end(text)?;
     let file = Vec::from_slice(heap, file)?;
-    Ok(Request::List { file: Some(file) })
+    Ok(Call::List { file: Some(file) })
 }
 
 #[tactic(auto, unfolding(crate::specs::Grammar::call))]
@@ -152,31 +152,31 @@ pub(crate) fn call_at(heap: Global, verb: Verb, text: &[u8]) -> Result<Request, 
     match verb {
         Verb::Plan => plan_at(heap, text),
         Verb::Tables => tables_at(text),
-        Verb::Draw => draw_at(heap, text),
-        Verb::Join => join_at(text),
-        Verb::Strap => strap_at(text),
+        Verb::Draw => Ok(Request::Call(draw_at(heap, text)?)),
+        Verb::Join => Ok(Request::Call(join_at(text)?)),
+        Verb::Strap => Ok(Request::Call(strap_at(text)?)),
         Verb::Erase => {
             let line = line_only(text)?;
-            Ok(Request::Erase { line })
+            Ok(Request::Call(Call::Erase { line }))
         }
-        Verb::Read => read_at(text),
-        Verb::Same => same_at(text),
+        Verb::Read => Ok(Request::Call(read_at(text)?)),
+        Verb::Same => Ok(Request::Call(same_at(text)?)),
         Verb::Used => {
             end(text)?;
-            Ok(Request::Used)
+            Ok(Request::Call(Call::Used))
         }
         Verb::Count => {
             let line = line_only(text)?;
-            Ok(Request::Count { line })
+            Ok(Request::Call(Call::Count { line }))
         }
         Verb::Issue => {
             end(text)?;
-            Ok(Request::Issue)
+            Ok(Request::Call(Call::Issue))
         }
         Verb::Reopen => {
             end(text)?;
-            Ok(Request::Reopen)
+            Ok(Request::Call(Call::Reopen))
         }
-        Verb::List => list_at(heap, text),
+        Verb::List => Ok(Request::Call(list_at(heap, text)?)),
     }
 }

@@ -5,7 +5,7 @@ mod grammar;
 mod layers;
 pub mod mistake;
 mod names;
-mod parts;
 pub mod parsing;
+mod parts;
 pub mod request;
 mod word;

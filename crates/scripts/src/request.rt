@@ -27,25 +27,65 @@ pub struct Layers<E> {
 // How a map file is read, and the layers over it.
 #[derive(Clone, Copy)]
 pub enum Map {
-    Bits { inverted: bool, layers: Layers<bool> },
-    Settings { layers: Layers<Setting> },
-    Ranges { inverted: bool, layers: Layers<bool> },
+    Bits {
+        inverted: bool,
+        layers: Layers<bool>,
+    },
+    Settings {
+        layers: Layers<Setting>,
+    },
+    Ranges {
+        inverted: bool,
+        layers: Layers<bool>,
+    },
 }
 
-// What a line asks for. Files are named by the bytes of their names.
+// A call on a plan. Files are named by the bytes of their names.
+#[derive(Drop)]
+pub enum Call {
+    Draw {
+        line: u8,
+        map: Map,
+        file: Vec<u8>,
+    },
+    Join {
+        how: How,
+        left: u8,
+        right: u8,
+        line: u8,
+    },
+    Strap {
+        from: u8,
+        pin: u8,
+        high: bool,
+        line: u8,
+    },
+    Erase {
+        line: u8,
+    },
+    Read {
+        line: u8,
+        address: u32,
+    },
+    Same {
+        left: u8,
+        right: u8,
+    },
+    Used,
+    Count {
+        line: u8,
+    },
+    Issue,
+    Reopen,
+    List {
+        file: Option<Vec<u8>>,
+    },
+}
+
+// What a line asks for: a new plan, the lengths of the tables that later calls are handed, or a call.
 #[derive(Drop)]
 pub enum Request {
     Plan { nodes: usize, order: Vec<u8> },
     Tables { records: usize, work: usize },
-    Draw { line: u8, map: Map, file: Vec<u8> },
-    Join { how: How, left: u8, right: u8, line: u8 },
-    Strap { from: u8, pin: u8, high: bool, line: u8 },
-    Erase { line: u8 },
-    Read { line: u8, address: u32 },
-    Same { left: u8, right: u8 },
-    Used,
-    Count { line: u8 },
-    Issue,
-    Reopen,
-    List { file: Option<Vec<u8>> },
+    Call(Call),
 }

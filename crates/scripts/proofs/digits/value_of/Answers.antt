@@ -17,7 +17,7 @@ returns-in_err-value-clause-value c =
 pub loop-letter-preserved : goal.loop-letter-preserved
 loop-letter-preserved c = record {
   so_far = sym (sym c.loop-letter.invariant.so_far
-    ∙ more c.args.base c.args.most c.loop-letter.value c.args.digits.now c.loop-letter.letter-index c.from.result c.from.ensures c.loop-letter-test.true c.in-Some.digit c.in-Some.ensures.value.1 c.in-Some.ensures.value.0 _ (sym c.in_ok-value.ensures));
+      ∙ more c.args.base c.args.most c.loop-letter.value c.args.digits.now c.loop-letter.letter-index c.from.result c.from.ensures c.loop-letter-test.true c.in-Some.digit c.in-Some.ensures.value.1 c.in-Some.ensures.value.0 _ (sym c.in_ok-value.ensures));
   small = search rules;
 }
 
