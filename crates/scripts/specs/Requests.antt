@@ -1,5 +1,5 @@
 -- Requests without where their parts lie in memory.
-use Rattle.std.specs.Prelude.{ℕ, Bool, List, Some, None, Option}
+use Rattle.std.specs.Prelude.{ℕ, Bool, List, Option, option_map}
 use Rattle.scripts.specs.declared.request.Call.{Call}
 use Rattle.scripts.specs.declared.request.Call.TheVariants as call
 use Rattle.scripts.specs.declared.request.How.{How}
@@ -39,8 +39,7 @@ act_of call.Used = used
 act_of (call.Count line) = count line
 act_of call.Issue = issue
 act_of call.Reopen = reopen
-act_of (call.List None) = list None
-act_of (call.List (Some file)) = list (Some file.items)
+act_of (call.List file) = list (option_map (λ v. v.items) file)
 
 abbrev pub asked : Request → Asked
 asked (request.Plan nodes order) = plan nodes order.items

@@ -1,2 +1,6 @@
+pub mod Lines
+pub mod Desks
 pub mod Drawings
 pub mod Joinings
+pub mod Calls
+pub mod Telling

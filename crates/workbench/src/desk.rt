@@ -1,0 +1,41 @@
+ghost use Rattle.std.specs.Prelude.{◌≡◌, None};
+ghost use Rattle.workbench.specs.declared.desk.Stage.TheVariants.{Bare};
+
+use crate::sheet::Sheet;
+use plans::issued::IssuedPlan;
+use plans::open::OpenPlan;
+
+// How long the tree table and the work are that calls are handed.
+#[derive(Clone, Copy)]
+pub struct Tables {
+    pub records: usize,
+    pub work: usize,
+}
+
+#[derive(Drop)]
+pub enum Stage {
+    Bare,
+    Open { plan: OpenPlan, sheet: Sheet },
+    Issued { plan: IssuedPlan, sheet: Sheet },
+}
+
+// What a script is carried out on: no plan yet, an open one or an issued one; and the lengths of the tables, if they
+// were set.
+#[derive(Drop)]
+pub struct Desk {
+    pub(crate) stage: Stage,
+    pub(crate) tables: Option<Tables>,
+}
+
+impl Desk {
+    // A desk with no plan.
+    pub fn bare() -> Desk
+        ensures stage { result.stage ≡ Bare }
+        ensures tables { result.tables ≡ None }
+    {
+        Desk {
+            stage: Stage::Bare,
+            tables: None,
+        }
+    }
+}
