@@ -5,7 +5,7 @@ use Rattle.faults.specs.Refusals.{or_else, is_none}
 use Rattle.model.specs.declared.Node.{Node}
 use Rattle.model.specs.Selections.{Alike}
 use Rattle.plans.specs.declared.header.Header.{Header}
-use Rattle.plans.specs.Holding.{Holds, Did, Compares, ToldValue}
+use Rattle.plans.specs.Holding.{Holds, Compares, ToldValue}
 use Rattle.plans.specs.Listing.{Lists, listing_of, list_told}
 use Rattle.plans.specs.Results.{refusal}
 use Rattle.plans.specs.Plain.{Plain, Call, draw, join, strap, erase, pins, line, told, after, changed, same_told}

@@ -1,7 +1,7 @@
 -- What each call of a script leaves and answers, on plain plans.
-use Rattle.std.specs.Prelude.{◌≡◌, ℕ, min, Bool, cond, ◌&&◌, if◌then◌else◌, List, length, Some, None, Ok, Err, Decides, MatchOption, Option, Result, nat_lt, nat_le}
+use Rattle.std.specs.Prelude.{◌≡◌, ℕ, Bool, List, length, Some, None, Ok, Err, Decides, MatchOption, Option, Result}
 use Rattle.faults.specs.declared.fault.Fault.{Fault}
-use Rattle.faults.specs.Refusals.{or_else, is_none}
+use Rattle.faults.specs.Refusals.{or_else}
 use Rattle.model.specs.declared.Node.{Node}
 use Rattle.model.specs.Selections.{Alike}
 use Rattle.plans.specs.Plain as plain
@@ -14,10 +14,8 @@ use Rattle.workbench.specs.declared.answer.Answer.{Answer}
 use Rattle.workbench.specs.declared.answer.Answer.TheVariants as answer
 use Rattle.workbench.specs.declared.answer.Misplaced.{Misplaced}
 use Rattle.workbench.specs.declared.answer.Misplaced.TheVariants as why
-use Rattle.workbench.specs.declared.desk.Desk.{Desk}
 use Rattle.workbench.specs.declared.desk.Stage.{Stage}
-use Rattle.workbench.specs.declared.desk.Tables.{Tables}
-use Rattle.workbench.specs.Desks.{Bench, none, opened, issued, Situation, StandsAt, Stands}
+use Rattle.workbench.specs.Desks.{Bench, none, opened, issued, StandsAt}
 use Rattle.workbench.specs.Drawings.{map_told, draw_call}
 use Rattle.workbench.specs.Joinings.{join_call}
 

@@ -1,5 +1,5 @@
 -- What a desk holds, with plain plans in place of plans.
-use Rattle.std.specs.Prelude.{◌≡◌, ℕ, List, length, take, None, Option}
+use Rattle.std.specs.Prelude.{◌≡◌, ℕ, List, take, None, Option}
 use Rattle.model.specs.declared.Node.{Node}
 use Rattle.plans.specs.declared.header.Header.{Header}
 use Rattle.plans.specs.Holding.{Holds}
@@ -33,11 +33,26 @@ StandsAt (stage.Open plan sheet) nodes (opened p) = Sits plan.header sheet nodes
 StandsAt (stage.Issued plan sheet) nodes (issued p) = Sits plan.header sheet nodes p
 StandsAt _ nodes _ = ⊥
 
--- how many nodes the plan has
+-- how many pins and nodes the plan has
+abbrev pub bench_pins : Bench → ℕ
+bench_pins none = 0
+bench_pins (opened p) = pins p
+bench_pins (issued p) = pins p
+
 abbrev pub bench_nodes : Bench → ℕ
 bench_nodes none = 0
 bench_nodes (opened p) = p.size
 bench_nodes (issued p) = p.size
+
+abbrev pub stage_pins : Stage → ℕ
+stage_pins stage.Bare = 0
+stage_pins (stage.Open plan sheet) = sheet.pins
+stage_pins (stage.Issued plan sheet) = sheet.pins
+
+abbrev pub stage_nodes : Stage → ℕ
+stage_nodes stage.Bare = 0
+stage_nodes (stage.Open plan sheet) = sheet.nodes
+stage_nodes (stage.Issued plan sheet) = sheet.nodes
 
 -- a desk holds this, its plan in the first nodes of the table
 pub record Stands (d : Desk) (nodes : List Node) (s : Situation) : Type 0 where

@@ -4,3 +4,5 @@ pub mod Drawings
 pub mod Joinings
 pub mod Calls
 pub mod Telling
+pub mod Handing
+pub mod Requests

@@ -1,4 +1,5 @@
 ghost use Rattle.std.specs.Prelude.{◌≡◌, None};
+ghost use Rattle.workbench.specs.Desks.{stage_pins, stage_nodes};
 ghost use Rattle.workbench.specs.declared.desk.Stage.TheVariants.{Bare};
 
 use crate::sheet::Sheet;
@@ -25,6 +26,19 @@ pub enum Stage {
 pub struct Desk {
     pub(crate) stage: Stage,
     pub(crate) tables: Option<Tables>,
+}
+
+impl Stage {
+    // How many pins and nodes the plan has, 0 if there is none.
+    pub(crate) fn sheet(&self) -> Sheet
+        ensures pins { result.pins ≡ stage_pins self.now }
+        ensures nodes { result.nodes ≡ stage_nodes self.now }
+    {
+        match self {
+            Stage::Bare => Sheet { pins: 0, nodes: 0 },
+            Stage::Open { sheet, .. } | Stage::Issued { sheet, .. } => *sheet,
+        }
+    }
 }
 
 impl Desk {

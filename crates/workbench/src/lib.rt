@@ -1,10 +1,13 @@
 #![tactic(auto)]
 // The calls of a script, carried out on one plan.
 pub mod answer;
+pub mod carrying;
 pub mod desk;
 mod drawing;
+mod handing;
 mod issued;
 mod joining;
+mod making;
 mod opened;
 pub mod sheet;
 mod telling;

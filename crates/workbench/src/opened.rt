@@ -6,9 +6,9 @@ ghost use Rattle.workbench.specs.Desks.{opened, Sits};
 
 use crate::answer::{Answer, Misplaced};
 use crate::desk::Stage;
-use crate::sheet::Sheet;
 use crate::drawing::draw_map;
 use crate::joining::join;
+use crate::sheet::Sheet;
 use crate::telling::{code, done, nodes as nodes_told, same};
 use model::Node;
 use plans::open::OpenPlan;

@@ -1,5 +1,5 @@
-use Rattle.std.proofs.Common.{◌≡◌, Ok, ap, refl, length}
-use Rattle.plans.specs.Plain.{code_of, line, read_told}
+use Rattle.std.proofs.Common.{Ok, ap, refl, length}
+use Rattle.plans.specs.Plain.{code_of, line}
 use Rattle.workbench.specs.declared.answer.Answer.TheVariants as answer
 use Rattle.workbench.proofs.Steps.{told_value, listed}
 use Rattle.workbench.proofs.issued.step_issued.Goals as goal
@@ -13,5 +13,5 @@ returns-in-Read c = rw c.in-Read.is (λ p bs r s. record {
 
 pub returns-in-List : goal.returns-in-List
 returns-in-List c = rw c.in-List.is (λ p bs r s.
-  let l = listed c.args.plan.header c.args.nodes.now (length c.args.work.now) c.args.buffer.now c.list.new.buffer c.list.result p c.list.ensures s.holds in
-  record { stands = s; answers = rw c.listing-answer.ensures (ap Ok l.answers); wrote = l.wrote })
+    let l = listed c.args.plan.header c.args.nodes.now (length c.args.work.now) c.args.buffer.now c.list.new.buffer c.list.result p c.list.ensures s.holds in
+    record { stands = s; answers = rw c.listing-answer.ensures (ap Ok l.answers); wrote = l.wrote })

@@ -1,4 +1,4 @@
-use Rattle.std.proofs.Common.{◌≡◌, Ok, ap, refl, length}
+use Rattle.std.proofs.Common.{Ok, ap, refl, length}
 use Rattle.plans.specs.Plain.{after, code_of, count_line, line}
 use Rattle.workbench.specs.Drawings.{map_told, draw_call}
 use Rattle.workbench.specs.declared.answer.Answer.TheVariants as answer
@@ -7,14 +7,14 @@ use Rattle.workbench.proofs.opened.step_open.Goals as goal
 
 pub returns-in-Draw : goal.returns-in-Draw
 returns-in-Draw c = rw c.in-Draw.is (λ p s.
-  let t = map_told c.in-Draw.map c.args.bytes.now in
-  let call = draw_call c.in-Draw.line c.in-Draw.map c.args.bytes.now (length c.args.nodes.now) (length c.args.records.now) (length c.args.work.now) in
-  let d = drawn c.args.plan.header c.draw_map-told.new.plan.header c.args.nodes.now c.draw_map-told.new.nodes p t call c.draw_map-told.result c.draw_map-told.ensures s.holds in
-  record {
-    stands = sits_on c.args.plan.header _ c.args.sheet c.args.nodes.now _ p _ s d.holds (unless_alongside t (after p call) p (after_alongside p call));
-    answers = rw c.done.ensures (ap Ok d.answers);
-    wrote = refl;
-  })
+    let t = map_told c.in-Draw.map c.args.bytes.now in
+    let call = draw_call c.in-Draw.line c.in-Draw.map c.args.bytes.now (length c.args.nodes.now) (length c.args.records.now) (length c.args.work.now) in
+    let d = drawn c.args.plan.header c.draw_map-told.new.plan.header c.args.nodes.now c.draw_map-told.new.nodes p t call c.draw_map-told.result c.draw_map-told.ensures s.holds in
+    record {
+      stands = sits_on c.args.plan.header _ c.args.sheet c.args.nodes.now _ p _ s d.holds (unless_alongside t (after p call) p (after_alongside p call));
+      answers = rw c.done.ensures (ap Ok d.answers);
+      wrote = refl;
+    })
 
 pub returns-in-Read : goal.returns-in-Read
 returns-in-Read c = rw c.in-Read.is (λ p s. record {
