@@ -1,0 +1,44 @@
+use model::Node;
+use std::alloc::{AllocError, Global};
+use trees::tree::{Half, Record};
+use workbench::desk::Desk;
+
+// The most nodes that a plan has.
+const NODES: usize = 4096;
+
+// As many records as the largest map needs: a range file of 1,024 ranges on 20 pins changes 2,048 times.
+const RECORDS: usize = 40_960;
+
+// What a plan of 20 pins and the most nodes asks for.
+const WORK: usize = 4 * 21 * 4098;
+
+// The longest listing.
+const BUFFER: usize = 104 + 20 + 7 * 4096;
+
+// The desk and the tables that are lent to its calls, taken once.
+#[derive(Drop)]
+pub(crate) struct Bench {
+    pub(crate) desk: Desk,
+    pub(crate) nodes: Vec<Node>,
+    pub(crate) records: Vec<Record>,
+    pub(crate) work: Vec<u32>,
+    pub(crate) buffer: Vec<u8>,
+}
+
+impl Bench {
+    pub(crate) fn new(heap: Global) -> Result<Bench, AllocError> {
+        let blank = Record {
+            level: 0,
+            block: 0,
+            low: Half::Code(0),
+            high: Half::Code(0),
+        };
+        Ok(Bench {
+            desk: Desk::bare(),
+            nodes: vec![in heap; Node::blank(); NODES]?,
+            records: vec![in heap; blank; RECORDS]?,
+            work: vec![in heap; 0; WORK]?,
+            buffer: vec![in heap; 0; BUFFER]?,
+        })
+    }
+}
