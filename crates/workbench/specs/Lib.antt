@@ -6,3 +6,5 @@ pub mod Calls
 pub mod Telling
 pub mod Handing
 pub mod Requests
+pub mod Rows
+pub mod Laws
