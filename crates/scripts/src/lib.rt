@@ -8,4 +8,6 @@ mod names;
 pub mod parsing;
 mod parts;
 pub mod request;
+#[cfg(test)]
+mod tests;
 mod word;

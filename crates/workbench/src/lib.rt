@@ -13,3 +13,5 @@ mod opened;
 pub mod running;
 pub mod sheet;
 mod telling;
+#[cfg(test)]
+mod tests;
