@@ -1,8 +1,8 @@
-ghost use Rattle.std.specs.Prelude.{length};
+ghost use Rattle.std.specs.Prelude.{◌≡◌, ℕ, List, length};
 ghost use Rattle.scripts.specs.Requests.{asked};
 ghost use Rattle.workbench.specs.Calls.{handed};
 ghost use Rattle.workbench.specs.Desks.{Situation, Stands, start};
-ghost use Rattle.workbench.specs.Requests.{RequestAnswered};
+ghost use Rattle.workbench.specs.Requests.{RequestAnswered, request_shown};
 ghost use Rattle.workbench.specs.Rows.{runs};
 
 use crate::answer::{Answer, Misplaced};
@@ -43,7 +43,8 @@ pub fn run(
     }
 }
 
-// What a request answers after any row of requests on a desk with no plan.
+// What a request answers after any row of requests on a desk with no plan, and what it leaves in the buffer, whatever
+// the row left there.
 pub fn answer_after(
     row: &[Given],
     given: &Given,
@@ -52,7 +53,8 @@ pub fn answer_after(
     work: &mut [u32],
     buffer: &mut [u8],
 ) -> Result<Answer, Misplaced>
-    ensures { let lent = handed (length nodes.old) (length records.old) (length work.old) (length buffer.old) in RequestAnswered lent (runs lent start row.now) (asked given.now.request) given.now.bytes.items result }
+    ensures answers { let lent = handed (length nodes.old) (length records.old) (length work.old) (length buffer.old) in RequestAnswered lent (runs lent start row.now) (asked given.now.request) given.now.bytes.items result }
+    ensures wrote { let lent = handed (length nodes.old) (length records.old) (length work.old) (length buffer.old) in (before : List ℕ) × (buffer.new ≡ request_shown lent (runs lent start row.now) (asked given.now.request) before) }
 {
     let mut desk = Desk::bare();
     run(&mut desk, row, nodes, records, work, buffer);
