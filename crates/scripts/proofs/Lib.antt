@@ -1,3 +1,4 @@
 pub mod Wording
 pub mod Counting
 pub mod Ordering
+pub mod Settled

@@ -3,3 +3,4 @@ pub mod Words
 pub mod Numbers
 pub mod Requests
 pub mod Grammar
+pub mod Examples

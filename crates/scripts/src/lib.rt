@@ -2,6 +2,7 @@
 // Lines of a script, and the calls that they ask for.
 mod digits;
 mod grammar;
+pub mod laws;
 mod layers;
 pub mod mistake;
 mod names;

@@ -4,54 +4,52 @@ use scripts::mistake::ParseError;
 use scripts::parsing::parse;
 use scripts::request::{Call, Request};
 use std::alloc::AllocError;
+use std::io::ErrorKind;
 use std::process::ExitCode;
-use std::{fs, io, str};
-use workbench::answer::{Answer, Misplaced};
+use std::{fmt, fs, io, str};
+use workbench::answer::Answer;
 use workbench::carrying::carry_out;
 
 // Whether a line was answered, and not an error.
 type Answered = io::Result<bool>;
 
-// A file's name as text. Of a name that is none, no file is found.
-fn name_of(file: &[u8]) -> &str {
-    match str::from_utf8(file) {
-        Ok(name) => name,
-        Err(_) => "?",
-    }
-}
-
-fn print_misplaced(rt: &HostRuntime, number: usize, why: Misplaced) -> Answered {
-    println!(rt; "ERROR line {number}: {why}")?;
+fn print_error<T: fmt::Display>(rt: &HostRuntime, number: usize, what: &T) -> Answered {
+    println!(rt; "ERROR line {number}: {what}")?;
     Ok(false)
 }
 
-// The listing in a file, or else in hex digits.
-fn show_listing(
+// A file that cannot be used. Want of memory is no error of the line, and ends the program.
+fn print_file_error(
+    rt: &HostRuntime,
+    number: usize,
+    name: &str,
+    what: &str,
+    error: io::Error,
+) -> Answered {
+    if error.kind() == ErrorKind::OutOfMemory {
+        return Err(error);
+    }
+    println!(rt; "ERROR line {number}: {name} cannot be {what}")?;
+    Ok(false)
+}
+
+// Writes a listing into a file.
+fn write_listing(
     rt: &HostRuntime,
     number: usize,
     answer: Answer,
     listing: &[u8],
-    file: &Option<Vec<u8>>,
+    file: &[u8],
 ) -> Answered {
-    match file {
-        None => {
+    let Ok(name) = str::from_utf8(file) else {
+        return print_error(rt, number, &"the name of the file is no text");
+    };
+    match fs::write(rt, name, listing) {
+        Ok(()) => {
             println!(rt; "{answer}")?;
-            print_hex(rt, listing)?;
             Ok(true)
         }
-        Some(file) => {
-            let name = name_of(file);
-            match fs::write(rt, name, listing) {
-                Ok(()) => {
-                    println!(rt; "{answer}")?;
-                    Ok(true)
-                }
-                Err(_) => {
-                    println!(rt; "ERROR line {number}: {name} cannot be written")?;
-                    Ok(false)
-                }
-            }
-        }
+        Err(error) => print_file_error(rt, number, name, "written", error),
     }
 }
 
@@ -73,10 +71,17 @@ fn answer(
         &mut bench.buffer,
     );
     match (told, request) {
-        (Err(why), _) => print_misplaced(rt, number, why),
+        (Err(why), _) => print_error(rt, number, &why),
         (Ok(Answer::Listing(len)), Request::Call(Call::List { file })) => {
-            let len = len.min(bench.buffer.len());
-            show_listing(rt, number, Answer::Listing(len), &bench.buffer[..len], file)
+            let listing = &bench.buffer[..len.min(bench.buffer.len())];
+            match file {
+                Some(file) => write_listing(rt, number, Answer::Listing(len), listing, file),
+                None => {
+                    println!(rt; "LISTING {len} BYTES")?;
+                    print_hex(rt, listing)?;
+                    Ok(true)
+                }
+            }
         }
         (Ok(answer), _) => {
             println!(rt; "{answer}")?;
@@ -85,31 +90,33 @@ fn answer(
     }
 }
 
-// A request that may name a file to be read.
-fn perform(rt: &HostRuntime, bench: &mut Bench, number: usize, request: &Request) -> Answered {
-    match request {
-        Request::Call(Call::Draw { file, .. }) => {
-            let name = name_of(file);
-            match fs::read(rt, name) {
-                Ok(bytes) => answer(rt, bench, number, request, &bytes),
-                Err(_) => {
-                    println!(rt; "ERROR line {number}: {name} cannot be read")?;
-                    Ok(false)
-                }
-            }
-        }
-        _ => answer(rt, bench, number, request, &[]),
+// A request for which a file is read.
+fn answer_file(
+    rt: &HostRuntime,
+    bench: &mut Bench,
+    number: usize,
+    request: &Request,
+    file: &[u8],
+) -> Answered {
+    let Ok(name) = str::from_utf8(file) else {
+        return print_error(rt, number, &"the name of the file is no text");
+    };
+    match fs::read(rt, name) {
+        Ok(bytes) => answer(rt, bench, number, request, &bytes),
+        Err(error) => print_file_error(rt, number, name, "read", error),
     }
 }
 
 fn run_line(rt: &HostRuntime, bench: &mut Bench, number: usize, line: &[u8]) -> Answered {
     match parse(rt.alloc(), line) {
         Ok(None) => Ok(true),
-        Ok(Some(request)) => perform(rt, bench, number, &request),
-        Err(ParseError::Mistake(mistake)) => {
-            println!(rt; "ERROR line {number}: {mistake}")?;
-            Ok(false)
-        }
+        Ok(Some(request)) => match &request {
+            Request::Call(Call::Draw { file, .. }) => {
+                answer_file(rt, bench, number, &request, file)
+            }
+            _ => answer(rt, bench, number, &request, &[]),
+        },
+        Err(ParseError::Mistake(mistake)) => print_error(rt, number, &mistake),
         Err(ParseError::Memory) => Err(AllocError.into()),
     }
 }
