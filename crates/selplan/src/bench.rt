@@ -1,6 +1,6 @@
 use model::Node;
 use std::alloc::{AllocError, Global};
-use trees::tree::{Half, Record};
+use trees::tree::Record;
 use workbench::desk::Desk;
 
 // The most nodes that a plan has.
@@ -27,16 +27,10 @@ pub(crate) struct Bench {
 
 impl Bench {
     pub(crate) fn new(heap: Global) -> Result<Bench, AllocError> {
-        let blank = Record {
-            level: 0,
-            block: 0,
-            low: Half::Code(0),
-            high: Half::Code(0),
-        };
         Ok(Bench {
             desk: Desk::bare(),
             nodes: vec![in heap; Node::blank(); NODES]?,
-            records: vec![in heap; blank; RECORDS]?,
+            records: vec![in heap; Record::blank(); RECORDS]?,
             work: vec![in heap; 0; WORK]?,
             buffer: vec![in heap; 0; BUFFER]?,
         })

@@ -5,7 +5,8 @@ use Rattle.faults.specs.declared.fault.Ground.{Ground}
 use Rattle.faults.specs.declared.fault.Ground.TheVariants as ground
 use Rattle.faults.specs.Refusals.{at, refuse_if, or_else, is_none}
 use Rattle.model.specs.declared.Node.{Node}
-use Rattle.plans.specs.declared.open.OpenPlan.{OpenPlan}
+use Rattle.plans.specs.declared.open.Open.{Open}
+use Rattle.plans.specs.declared.plan.Plan.{Plan}
 use Rattle.plans.specs.Holding.{Holds, Made}
 use Rattle.plans.specs.Orders.{misplaced, misplaced_below}
 use Rattle.plans.specs.Plain.{empty_plan, make_told}
@@ -71,7 +72,7 @@ module _ (order : List ℕ) (n : ℕ) (many : 4096 < n) where
       by_refusal false None q = some_none (at ground.NodeTable 0) q
 
 -- a plan that was made over the first nodes of a table
-module _ (order : List ℕ) (n : ℕ) (nodes : List Node) (enough : n ≤ length nodes) (plan : OpenPlan) (made : Made order (take n nodes) plan.header) (sheet : Sheet) (pins : sheet.pins ≡ length order) (size : sheet.nodes ≡ n) where
+module _ (order : List ℕ) (n : ℕ) (nodes : List Node) (enough : n ≤ length nodes) (plan : Plan Open) (made : Made order (take n nodes) plan.header) (sheet : Sheet) (pins : sheet.pins ≡ length order) (size : sheet.nodes ≡ n) where
   long : length (take n nodes) ≡ n
   long = length-take n nodes ∙ (omega arith)
 

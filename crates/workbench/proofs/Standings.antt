@@ -2,7 +2,8 @@
 use Rattle.std.proofs.Common.{◌≡◌, ℕ, ◌≤◌, min, List, ◌++◌, length, take, drop, Result, sym, refl, ap, ◌∙◌, subst, arith, length-take}
 use Rattle.std.proofs.lemmas.List.{take_at}
 use Rattle.model.specs.declared.Node.{Node}
-use Rattle.plans.specs.declared.issued.IssuedPlan.{IssuedPlan}
+use Rattle.plans.specs.declared.issued.Issued.{Issued}
+use Rattle.plans.specs.declared.plan.Plan.{Plan}
 use Rattle.plans.specs.Plain.{Plain, strap, erase, after}
 use Rattle.scripts.specs.Requests as script
 use Rattle.scripts.specs.Requests.{Act}
@@ -22,7 +23,7 @@ use Rattle.workbench.specs.Requests.{sizes, Acted}
 use Rattle.workbench.proofs.Steps.{after_alongside, unless_alongside}
 
 -- what an issued plan may hold
-pub issued_stands : (plan : IssuedPlan) (sheet : Sheet) (nodes : List Node) (P : Bench → Type 0) → ((p : Plain) → Sits plan.header sheet nodes p → P (issued p)) → (b : Bench) → StandsAt (stage.Issued plan sheet) nodes b → P b
+pub issued_stands : (plan : Plan Issued) (sheet : Sheet) (nodes : List Node) (P : Bench → Type 0) → ((p : Plain) → Sits plan.header sheet nodes p → P (issued p)) → (b : Bench) → StandsAt (stage.Issued plan sheet) nodes b → P b
 issued_stands plan sheet nodes P k none s = absurd s
 issued_stands plan sheet nodes P k (opened p) s = absurd s
 issued_stands plan sheet nodes P k (issued p) s = k p s

@@ -5,17 +5,10 @@ use model::Node;
 use scripts::parsing::parse;
 use scripts::request::Request;
 use std::test::Fail;
-use trees::tree::{Half, Record};
+use trees::tree::Record;
 
 // The ends 0 1 1 0.
 const TWO: [u8; 16] = [0x53, 0x57, 0x4C, 0, 1, 0, 2, 0, 0, 2, 0, 0, 1, 0, 0, 3];
-
-const BLANK: Record = Record {
-    level: 0,
-    block: 0,
-    low: Half::Code(0),
-    high: Half::Code(0),
-};
 
 fn request_of(rt: &HostRuntime, line: &str) -> Result<Request, &'static str> {
     match parse(rt.alloc(), line.as_bytes()) {
@@ -28,7 +21,7 @@ fn request_of(rt: &HostRuntime, line: &str) -> Result<Request, &'static str> {
 fn answers_lines(rt: HostRuntime) -> Result<(), Fail> {
     let mut desk = Desk::bare();
     let mut nodes = [Node::blank(); 16];
-    let mut records = [BLANK; 16];
+    let mut records = [Record::blank(); 16];
     let mut work = [0; 216];
     let mut buffer = [0; 127];
     for (line, answer) in [
@@ -98,7 +91,7 @@ fn answers_after_a_row(rt: HostRuntime) -> Result<(), Fail> {
         &row,
         &last,
         &mut [Node::blank(); 4],
-        &mut [BLANK; 4],
+        &mut [Record::blank(); 4],
         &mut [0; 72],
         &mut [],
     );
