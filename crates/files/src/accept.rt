@@ -6,7 +6,7 @@ use crate::fields::Fields;
 use crate::format::Format;
 use faults::fault::Fault;
 
-// The same bytes, if they are a map file of the format; else the first fault.
+// The same bytes, if they are a map file of the format; else the first fault. (Callers have bytes, and no `Fields` yet.)
 pub fn accept(bytes: &[u8], format: Format) -> Result<&[u8], Fault>
     ensures { MatchResult result (λ back. Accepted format bytes.now back.now) (λ f. Refused format bytes.now f) }
 {

@@ -35,6 +35,7 @@ pub enum Found {
 }
 
 // Looks a node up in the index.
+// That a table has at most 4,096 nodes, so that a slot fits in 16 bits, stays a premise: it is the caller's slice.
 pub(crate) fn probe(nodes: &[Node], index: &[u32], wanted: Node) -> Found
     requires { length nodes.now ≤ 4096 }
     ensures { Probed nodes.now index.now wanted result }

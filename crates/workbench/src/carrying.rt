@@ -15,7 +15,7 @@ use scripts::request::{Call, Request};
 use std::mem;
 use trees::tree::Record;
 
-// A call on whatever plan there is, with just the tables that it is handed.
+// A call on whatever plan there is, with just the tables that it is handed, as parameters like those of a plan's calls.
 fn step(
     stage: Stage,
     call: &Call,
