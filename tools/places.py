@@ -4,10 +4,12 @@
     python3 tools/places.py [FOLDER]      the counts
     python3 tools/places.py -v [FOLDER]   the counts and each place
 
-What it finds is a place to look at, not a fault: docs/DESIGN-PASS.md says what became of each.
+What it finds is a place to look at, not a fault: docs/DESIGN-PASS.md says what became of each. Point 2 asks the command
+`duplicates`, which lists places of a tree that share lines; where there is none, that point is left out.
 """
 import pathlib
 import re
+import shutil
 import subprocess
 import sys
 import tempfile
@@ -26,7 +28,7 @@ OPTION_BY_HAND = [
     r"Err\(\w+\) => Some\(",
     r"match \w+\.number\(\)",
 ]
-# a list's own variants, as an option or a result
+# an enum of a bare variant and one with a value
 OPTION_ENUM = r"enum \w+(?:<\w+>)? \{\s*\w+,\s*\w+\([^)]*\),?\s*\}|enum \w+(?:<\w+>)? \{\s*\w+\([^)]*\),\s*\w+,?\s*\}"
 WHILES = [r"^\s*while [^{]*\{", r"^\s*loop \{"]
 COUNTED = r"for (\w+) in [^{;]*\.\.[^{;]*\{"
@@ -111,6 +113,8 @@ def facts():
 
 
 def twins():
+    if not shutil.which("duplicates"):
+        return
     with tempfile.TemporaryDirectory() as d:
         for f, text in TEXTS.items():
             to = pathlib.Path(d, *f.relative_to(ROOT).parts).with_suffix(".rs")
