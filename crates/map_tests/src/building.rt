@@ -1,4 +1,4 @@
-// Map files written for tests.
+// Map files written for tests. Pins and changes are parameters: they are what a file is made of, and no more.
 use faults::fault::Fault;
 use files::accept::accept;
 use files::format::Format;
