@@ -3,6 +3,7 @@ ghost use Rattle.std.specs.Prelude.{◌≡◌, ◌^◌, ◌<◌, nat_lt, slice_i
 ghost use Rattle.files.specs.Formats.{double, triple, pins_of, count_of, first_of, last_of, code_of};
 
 use crate::format::Format;
+use crate::layout::{BEHIND_ADDRESS, FIRST_CODE_AT};
 
 #[derive(Clone, Copy)]
 pub struct Fields<'a> {
@@ -66,8 +67,7 @@ impl<'a> Fields<'a> {
         if entry == 0 {
             return 0;
         }
-        let layout = self.format.layout();
-        self.be24(layout.header_len as u32 + (u32::from(entry) - 1) * layout.entry_len as u32)
+        self.be24(self.format.entry_at(entry))
     }
 
     // The last address of a range, 1 and up.
@@ -75,7 +75,7 @@ impl<'a> Fields<'a> {
         ensures value { result ≡ last_of self.now.bytes.now range }
         ensures below { result < 2 ^ 24 }
     {
-        self.be24(8 + u32::from(range).saturating_sub(1) * 6 + 3)
+        self.be24(Format::Ranges.entry_at(range) + BEHIND_ADDRESS)
     }
 
     // The code after some changes of the end.
@@ -83,9 +83,12 @@ impl<'a> Fields<'a> {
         ensures { result ≡ code_of self.now.format self.now.bytes.now changes }
     {
         match self.format {
-            Format::Bits => ((u32::from(self.byte_at(7)) + u32::from(changes)) % 2) as u8,
-            Format::Settings if changes == 0 => self.byte_at(7),
-            Format::Settings => self.byte_at(10 + (usize::from(changes) - 1) * 4 + 3),
+            Format::Bits => ((u32::from(self.byte_at(FIRST_CODE_AT)) + u32::from(changes))
+                % 2) as u8,
+            Format::Settings if changes == 0 => self.byte_at(FIRST_CODE_AT),
+            Format::Settings => self.byte_at(
+                (self.format.entry_at(changes) + BEHIND_ADDRESS) as usize,
+            ),
             Format::Ranges => (changes % 2) as u8,
         }
     }

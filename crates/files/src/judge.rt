@@ -5,6 +5,7 @@ ghost use Rattle.files.specs.declared.format.Format.TheVariants.{Ranges};
 
 use crate::fields::Fields;
 use crate::format::Format;
+use crate::layout::{FIRST_CODE_AT, KIND_AT, VERSION_AT};
 use faults::fault::{Fault, Ground};
 
 impl<'a> Fields<'a> {
@@ -18,8 +19,8 @@ impl<'a> Fields<'a> {
         ensures { result ≡ of_kind self.now.format self.now.bytes.now }
     {
         match self.format {
-            Format::Bits => self.byte_at(5) == 0,
-            Format::Settings => self.byte_at(5) == 1,
+            Format::Bits => self.byte_at(KIND_AT) == 0,
+            Format::Settings => self.byte_at(KIND_AT) == 1,
             Format::Ranges => true,
         }
     }
@@ -36,11 +37,11 @@ impl<'a> Fields<'a> {
         if !self.has_mark() {
             return Err(Ground::Mark.at(0));
         }
-        if self.be16(3) != 1 {
-            return Err(Ground::Version.at(3));
+        if self.be16(VERSION_AT) != 1 {
+            return Err(Ground::Version.at(VERSION_AT as usize));
         }
         if !self.has_kind() {
-            return Err(Ground::Kind.at(5));
+            return Err(Ground::Kind.at(KIND_AT));
         }
         let pins = self.pin_count();
         if pins < 1 || pins > 20 {
@@ -65,7 +66,8 @@ impl<'a> Fields<'a> {
         ensures { MatchResult result (λ _. first_fault self.now.format self.now.bytes.now ≡ None) (λ f. first_fault self.now.format self.now.bytes.now ≡ Some f) }
     {
         match self.format {
-            Format::Bits | Format::Settings if self.byte_at(7) >= self.format.layout().codes => {
+            Format::Bits | Format::Settings
+                if self.byte_at(FIRST_CODE_AT) >= self.format.layout().codes => {
                 Err(Ground::NoCode.at(0))
             }
             _ => Ok(()),

@@ -1,8 +1,19 @@
 // Where the fields of each format stand, and how long its parts are.
-ghost use Rattle.std.specs.Prelude.{◌≡◌};
-ghost use Rattle.files.specs.Formats.{mark_of, pins_at, count_at, header_size, entry_size, code_limit};
+ghost use Rattle.std.specs.Prelude.{◌≡◌, ◌^◌, ◌<◌};
+ghost use Rattle.files.specs.Formats.{mark_of, pins_at, count_at, header_size, entry_size, entry_at, code_limit};
 
 use crate::format::Format;
+
+// Every format has its version here.
+pub(crate) const VERSION_AT: u32 = 3;
+
+// A switch file has its kind and the code of its first end here.
+pub(crate) const KIND_AT: usize = 5;
+
+pub(crate) const FIRST_CODE_AT: usize = 7;
+
+// An entry begins with an address; the code of a switch, or the last address of a range, stands behind it.
+pub(crate) const BEHIND_ADDRESS: u32 = 3;
 
 #[derive(Clone, Copy)]
 pub struct Layout {
@@ -50,5 +61,14 @@ impl Format {
                 codes: 2,
             },
         }
+    }
+
+    // Where an entry stands, 1 and up.
+    pub(crate) fn entry_at(self, entry: u16) -> u32
+        ensures value { result ≡ entry_at self entry }
+        ensures below { result < 2 ^ 24 }
+    {
+        let layout = self.layout();
+        layout.header_len as u32 + u32::from(entry).saturating_sub(1) * layout.entry_len as u32
     }
 }
