@@ -2,8 +2,9 @@
 use Rattle.std.proofs.Common.{◌≡◌, ℕ, List, [], ◌∷◌, length, Some, None, Ok, Err, Option, Result, sym, refl, ap, ◌∙◌, subst, arith}
 use Rattle.faults.specs.declared.fault.Fault.{Fault}
 use Rattle.model.specs.declared.Node.{Node}
+use Rattle.model.specs.Selections.{Selection}
 use Rattle.plans.specs.declared.header.Header.{Header}
-use Rattle.plans.specs.Plain.{Plain, Call, line, told, read_told, code_of, count_told, count_line}
+use Rattle.plans.specs.Plain.{Plain, Call, draw, line, told, read_told, code_of, count_told, count_line}
 use Rattle.plans.specs.Holding.{Holds, Did, Reads, Counts, ToldValue}
 use Rattle.plans.specs.Results.{refusal}
 use Rattle.settled.specs.Readings.{ReadsEach}
@@ -20,6 +21,11 @@ never_refused h nodes p c f h' nodes' o e d = never (told p c) f e (sym (d.tells
 pub at_lengths : (c : ℕ → ℕ → Call) (a' w' : ℕ) (h : Header) (nodes : List Node) (r : Result (Unit {0}) Fault) (h' : Header) (nodes' : List Node) (a w : ℕ) → a ≡ a' → w ≡ w' → Did h nodes (c a w) r h' nodes' → Did h nodes (c a' w') r h' nodes'
 at_lengths c a' w' h nodes r h' nodes' a w e q d =
     subst (λ (y : ℕ). Did h nodes (c a' y) r h' nodes') q (subst (λ (x : ℕ). Did h nodes (c x w) r h' nodes') e d)
+
+-- a draw on tables of known lengths
+pub draw_at_lengths : (n : ℕ) (f : Selection) (h : Header) (nodes : List Node) (r : Result (Unit {0}) Fault) (h' : Header) (nodes' : List Node) (a t w : ℕ) → a ≡ 3 → t ≡ 3 → w ≡ 60 → Did h nodes (draw 0 n f a t w) r h' nodes' → Did h nodes (draw 0 n f 3 3 60) r h' nodes'
+draw_at_lengths n f h nodes r h' nodes' a t w e p q d =
+    subst (λ (x : ℕ). Did h nodes (draw 0 n f 3 x 60) r h' nodes') p (at_lengths (λ x y. draw 0 n f x t y) 3 60 h nodes r h' nodes' a w e q d)
 
 pub went : (r : Result (Unit {0}) Fault) → refusal r ≡ None → r ≡ Ok tt
 went (Ok tt) e = refl

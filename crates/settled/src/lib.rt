@@ -2,6 +2,7 @@
 // Settled examples on the calls: what each of them tells, side by side in specs/Examples.
 mod four_reads;
 pub mod maps;
+mod memory;
 pub mod mount;
 pub mod outcome;
 pub mod outcomes;

@@ -7,26 +7,30 @@ ghost use Rattle.settled.specs.Examples.{MountSettles};
 ghost use Rattle.settled.specs.Readings.{ReadsFour};
 
 use crate::four_reads::read_each;
+use crate::memory::Memory;
 use crate::samples::SINGLE;
 use ends::end::End;
 use faults::fault::Fault;
-use model::Node;
 use plans::open::OpenPlan;
 use readers::bit_file::BitFile;
 use sources::mounted::Mounted;
 use sources::source::Source;
-use trees::tree::Record;
 
 // The codes of a source of two pins, drawn on a new plan and read at each address.
 fn read_four<S: Source>(source: &S) -> Result<[Result<u16, Fault>; 4], Fault>
     ensures { ReadsFour (S.Source.width source.now) (codes S.Of.End.code (S.Source.selection source.now)) result }
 {
-    let mut nodes = [Node::blank(); 3];
-    let mut records = [Record::blank(); 3];
-    let mut work = [0; 60];
-    let mut plan = OpenPlan::new(&[0, 1], &nodes)?;
-    plan.draw(source, 0, &mut nodes, &mut records, &mut work)?;
-    Ok(read_each(&plan, &nodes, 0))
+    let mut memory = Memory::blank();
+    let memory = &mut memory;
+    let mut plan = OpenPlan::new(&[0, 1], &memory.nodes)?;
+    plan.draw(
+        source,
+        0,
+        &mut memory.nodes,
+        &mut memory.records,
+        &mut memory.work,
+    )?;
+    Ok(read_each(&plan, &memory.nodes, 0))
 }
 
 // A source mounted in 2 pins at base 1 with fill 0.

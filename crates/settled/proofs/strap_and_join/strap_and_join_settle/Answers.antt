@@ -1,4 +1,4 @@
-use Rattle.std.proofs.Common.{Ok, refl, ap, ◌∙◌}
+use Rattle.std.proofs.Common.{Ok, ap, ◌∙◌}
 use Rattle.settled.specs.Lines.{two_drawn}
 use Rattle.settled.proofs.Chains.{strapping, joining, strapped, joined, strap_goes, strap_uses, strap_read, strap_ends, join_goes, count_goes, none_counted}
 use Rattle.settled.proofs.Steps.{at_lengths, went, each_read, count_told_is}
@@ -6,12 +6,12 @@ use Rattle.settled.proofs.strap_and_join.strap_and_join_settle.Goals as goal
 
 pub returns : goal.returns
 returns c =
-    let k₂ = c.draw_two.auto in
-    let o₂ = c.in_ok-plan.ensures refl refl refl in
-    let d₃ = at_lengths strapping 3 60 _ _ _ _ _ _ _ k₂.nodes k₂.work c.strap-strapped.ensures in
+    let m₂ = c.draw_two.new.memory in
+    let o₂ = c.in_ok-plan.ensures in
+    let d₃ = at_lengths strapping 3 60 _ _ _ _ _ _ _ m₂.stocked m₂.roomy c.strap-strapped.ensures in
     let o₃ = d₃.leaves two_drawn o₂ in
-    let n₃ = c.strap-strapped.auto.nodes ∙ k₂.nodes in
-    let w₃ = c.strap-strapped.auto.work ∙ k₂.work in
+    let n₃ = c.strap-strapped.auto.nodes ∙ m₂.stocked in
+    let w₃ = c.strap-strapped.auto.work ∙ m₂.roomy in
     let d₄ = at_lengths joining 3 60 _ _ _ _ _ _ _ n₃ w₃ c.join-joined.ensures in
     let o₄ = d₄.leaves strapped o₃ in
     let n₄ = c.join-joined.auto.nodes ∙ n₃ in

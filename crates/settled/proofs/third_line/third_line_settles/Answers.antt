@@ -1,4 +1,4 @@
-use Rattle.std.proofs.Common.{refl, ◌∙◌}
+use Rattle.std.proofs.Common.{◌∙◌}
 use Rattle.plans.specs.Plain.{erase}
 use Rattle.settled.specs.Lines.{two_drawn}
 use Rattle.settled.proofs.Chains.{still_two, erased, three_used, third_refused, erase_goes, third_goes, two_used}
@@ -7,16 +7,13 @@ use Rattle.settled.proofs.third_line.third_line_settles.Goals as goal
 
 pub returns : goal.returns
 returns c =
-    let k₂ = c.draw_two.auto in
-    let o₂ = c.in_ok-plan.ensures refl refl refl in
-    let d₃ = c.draw_file-drawn.ensures k₂.nodes k₂.records k₂.work in
+    let o₂ = c.in_ok-plan.ensures in
+    let d₃ = c.draw_file-drawn.ensures in
     let o₃ = d₃.leaves two_drawn o₂ in
-    let k₃ = c.draw_file-drawn.auto in
-    let n₃ = k₃.nodes ∙ k₂.nodes in
-    let w₃ = k₃.work ∙ k₂.work in
-    let d₄ = at_lengths (erase 0) 3 60 _ _ _ _ _ _ _ n₃ w₃ c.erase-erased.ensures in
+    let m₃ = c.draw_file-drawn.new.memory in
+    let d₄ = at_lengths (erase 0) 3 60 _ _ _ _ _ _ _ m₃.stocked m₃.roomy c.erase-erased.ensures in
     let o₄ = d₄.leaves still_two o₃ in
-    let d₅ = c.draw_file-drawn_then.ensures n₃ (k₃.records ∙ k₂.records) (c.erase-erased.auto.work ∙ w₃) in
+    let d₅ = c.draw_file-drawn_then.ensures in
     let o₅ = d₅.leaves erased o₄ in
     record {
       used = c.used-used.ensures _ two_drawn o₂ ∙ three_used;
