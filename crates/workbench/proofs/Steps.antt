@@ -1,5 +1,5 @@
 -- What calls leave and answer, taken out of what the plan's calls promise.
-use Rattle.std.proofs.Common.{◌≡◌, ℕ, Bool, true, false, cond, List, ◌++◌, length, drop, Some, None, Ok, Err, Decides, MatchOption, Option, Result, sym, refl, ap, ◌∙◌, subst}
+use Rattle.std.proofs.Common.{◌≡◌, ℕ, Bool, true, false, cond, List, ◌++◌, length, drop, Some, None, Ok, Err, Decides, MatchOption, MatchResult, Option, Result, sym, refl, ap, ◌∙◌, subst}
 use Rattle.faults.specs.declared.fault.Fault.{Fault}
 use Rattle.faults.specs.Refusals.{or_else, is_none}
 use Rattle.model.specs.declared.Node.{Node}
@@ -43,6 +43,11 @@ unless_alongside None q p a = a
 
 pub sits_on : (h h' : Header) (sheet : Sheet) (nodes nodes' : List Node) (p q : Plain) → Sits h sheet nodes p → Holds h' nodes' q → Alongside q p → Sits h' sheet nodes' q
 sits_on h h' sheet nodes nodes' p q s o a = record { holds = o; pins = s.pins ∙ ap length (sym a.order); size = s.size ∙ sym a.size }
+
+-- the answer made by a function of the value
+pub answer_made : {A : Type 0} (f : A → Answer) (r : Result A Fault) (a : Answer) (P : A → Type 0) → ((x : A) → P x → a ≡ f x) → MatchResult r P (λ e. a ≡ answer.Refused e) → a ≡ valued f r
+answer_made f (Ok x) a P made m = made x m
+answer_made f (Err e) a P made m = m
 
 -- what was told, as an answer
 pub told_value : {A : Type 0} (f : A → Answer) (r : Result A Fault) (t : Option Fault) (v : A) → ToldValue r t (λ x. x ≡ v) → valued f r ≡ answer_of t (f v)

@@ -7,7 +7,7 @@ ghost use Rattle.workbench.specs.Desks.{issued, Sits};
 use crate::answer::{Answer, Misplaced};
 use crate::desk::Stage;
 use crate::sheet::Sheet;
-use crate::telling::{code, listing};
+use crate::telling::answered;
 use model::Node;
 use plans::issued::IssuedPlan;
 use scripts::request::Call;
@@ -25,11 +25,11 @@ pub(crate) fn step_issued(
 {
     match call {
         Call::Read { line, address } => {
-            let answer = code(plan.read(nodes, *line, *address));
+            let answer = answered(plan.read(nodes, *line, *address), Answer::Code);
             (Stage::Issued { plan, sheet }, Ok(answer))
         }
         Call::List { .. } => {
-            let answer = listing(plan.list(nodes, work, buffer));
+            let answer = answered(plan.list(nodes, work, buffer), Answer::Listing);
             (Stage::Issued { plan, sheet }, Ok(answer))
         }
         Call::Reopen => {

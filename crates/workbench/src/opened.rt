@@ -9,7 +9,7 @@ use crate::desk::Stage;
 use crate::drawing::draw_map;
 use crate::joining::join;
 use crate::sheet::Sheet;
-use crate::telling::{code, done, nodes as nodes_told, same};
+use crate::telling::answered;
 use model::Node;
 use plans::open::OpenPlan;
 use scripts::request::Call;
@@ -32,25 +32,40 @@ pub(crate) fn step_open(
     let answer = match call {
         Call::Draw { line, map, .. } => {
             let told = draw_map(&mut plan, *map, bytes, *line, nodes, records, work);
-            Ok(done(told))
+            Ok(answered(told, |()| Answer::Done))
         }
         Call::Join {
             how,
             left,
             right,
             line,
-        } => Ok(done(join(&mut plan, *how, *left, *right, *line, nodes, work))),
+        } => {
+            let told = join(&mut plan, *how, *left, *right, *line, nodes, work);
+            Ok(answered(told, |()| Answer::Done))
+        }
         Call::Strap {
             from,
             pin,
             high,
             line,
-        } => Ok(done(plan.strap(*from, *pin, *high, *line, nodes, work))),
-        Call::Erase { line } => Ok(done(plan.erase(nodes, work, *line))),
-        Call::Read { line, address } => Ok(code(plan.read(nodes, *line, *address))),
-        Call::Same { left, right } => Ok(same(plan.same(*left, *right))),
+        } => {
+            let told = plan.strap(*from, *pin, *high, *line, nodes, work);
+            Ok(answered(told, |()| Answer::Done))
+        }
+        Call::Erase { line } => {
+            let told = plan.erase(nodes, work, *line);
+            Ok(answered(told, |()| Answer::Done))
+        }
+        Call::Read { line, address } => Ok(answered(
+            plan.read(nodes, *line, *address),
+            Answer::Code,
+        )),
+        Call::Same { left, right } => Ok(answered(plan.same(*left, *right), Answer::Same)),
         Call::Used => Ok(Answer::Used(plan.used())),
-        Call::Count { line } => Ok(nodes_told(*line, plan.count(nodes, work, *line))),
+        Call::Count { line } => {
+            let told = plan.count(nodes, work, *line);
+            Ok(answered(told, |nodes| Answer::Nodes { line: *line, nodes }))
+        }
         Call::Issue => {
             let plan = plan.issue();
             return (Stage::Issued { plan, sheet }, Ok(Answer::Done));

@@ -1,52 +1,15 @@
 // Answers of what a plan told.
-ghost use Rattle.std.specs.Prelude.{◌≡◌};
-ghost use Rattle.workbench.specs.Telling.{valued};
-ghost use Rattle.workbench.specs.declared.answer.Answer.TheVariants as answer;
+ghost use Rattle.std.specs.Prelude.{◌≡◌, MatchResult};
+ghost use Rattle.std.specs.Result.{ForOk};
+ghost use Rattle.workbench.specs.declared.answer.Answer.TheVariants.{Refused};
 
 use crate::answer::Answer;
 use faults::fault::Fault;
 
-pub(crate) fn done(told: Result<(), Fault>) -> Answer
-    ensures { result ≡ valued (λ _. answer.Done) told }
+// The answer made of a value, or the refusal.
+pub(crate) fn answered<T, F: FnOnce(T) -> Answer>(told: Result<T, Fault>, value: F) -> Answer
+    requires { ForOk told (F.pre value) }
+    ensures { MatchResult told (λ x. F.post value x result) (λ f. result ≡ Refused f) }
 {
-    match told {
-        Ok(()) => Answer::Done,
-        Err(fault) => Answer::Refused(fault),
-    }
-}
-
-pub(crate) fn code(told: Result<u16, Fault>) -> Answer
-    ensures { result ≡ valued (λ c. answer.Code c) told }
-{
-    match told {
-        Ok(code) => Answer::Code(code),
-        Err(fault) => Answer::Refused(fault),
-    }
-}
-
-pub(crate) fn same(told: Result<bool, Fault>) -> Answer
-    ensures { result ≡ valued (λ b. answer.Same b) told }
-{
-    match told {
-        Ok(is_same) => Answer::Same(is_same),
-        Err(fault) => Answer::Refused(fault),
-    }
-}
-
-pub(crate) fn nodes(line: u8, told: Result<u16, Fault>) -> Answer
-    ensures { result ≡ valued (λ k. answer.Nodes line k) told }
-{
-    match told {
-        Ok(nodes) => Answer::Nodes { line, nodes },
-        Err(fault) => Answer::Refused(fault),
-    }
-}
-
-pub(crate) fn listing(told: Result<usize, Fault>) -> Answer
-    ensures { result ≡ valued (λ b. answer.Listing b) told }
-{
-    match told {
-        Ok(len) => Answer::Listing(len),
-        Err(fault) => Answer::Refused(fault),
-    }
+    told.map_or_else(|fault| Answer::Refused(fault), value)
 }

@@ -1,8 +1,8 @@
-use Rattle.std.proofs.Common.{Ok, ap, refl, length}
+use Rattle.std.proofs.Common.{Ok, ap, refl, rules, length}
 use Rattle.plans.specs.Plain.{after, code_of, count_line, line}
 use Rattle.workbench.specs.Drawings.{map_told, draw_call}
 use Rattle.workbench.specs.declared.answer.Answer.TheVariants as answer
-use Rattle.workbench.proofs.Steps.{told_value, told_same, drawn, sits_on, after_alongside, unless_alongside}
+use Rattle.workbench.proofs.Steps.{answer_made, told_value, told_same, drawn, sits_on, after_alongside, unless_alongside}
 use Rattle.workbench.proofs.opened.step_open.Goals as goal
 
 pub returns-in-Draw : goal.returns-in-Draw
@@ -12,21 +12,21 @@ returns-in-Draw c = rw c.in-Draw.is (λ p s.
     let d = drawn c.args.plan.header c.draw_map-told.new.plan.header c.args.nodes.now c.draw_map-told.new.nodes p t call c.draw_map-told.result c.draw_map-told.ensures s.holds in
     record {
       stands = sits_on c.args.plan.header _ c.args.sheet c.args.nodes.now _ p _ s d.holds (unless_alongside t (after p call) p (after_alongside p call));
-      answers = rw c.done.ensures (ap Ok d.answers);
+      answers = rw (answer_made (λ _. answer.Done) c.draw_map-told.result c.answered.result _ (λ x e. search rules) c.answered.ensures) (ap Ok d.answers);
       wrote = refl;
     })
 
 pub returns-in-Read : goal.returns-in-Read
 returns-in-Read c = rw c.in-Read.is (λ p s. record {
   stands = s;
-  answers = rw c.code.ensures (ap Ok (told_value (λ x. answer.Code x) c.read.result _ (code_of (line p c.in-Read.line) c.in-Read.address) (c.read.ensures.tells p s.holds)));
+  answers = rw (answer_made (λ x. answer.Code x) c.read.result c.answered-in-Read.result _ (λ x e. search rules) c.answered-in-Read.ensures) (ap Ok (told_value (λ x. answer.Code x) c.read.result _ (code_of (line p c.in-Read.line) c.in-Read.address) (c.read.ensures.tells p s.holds)));
   wrote = refl;
 })
 
 pub returns-in-Same : goal.returns-in-Same
 returns-in-Same c = rw c.in-Same.is (λ p s. record {
   stands = s;
-  answers = rw c.same-in-Same.ensures (told_same c.args.plan.header c.args.nodes.now p c.in-Same.left c.in-Same.right c.same.result c.same.ensures s.holds);
+  answers = rw (answer_made (λ x. answer.Same x) c.same.result c.answered-in-Same.result _ (λ x e. search rules) c.answered-in-Same.ensures) (told_same c.args.plan.header c.args.nodes.now p c.in-Same.left c.in-Same.right c.same.result c.same.ensures s.holds);
   wrote = refl;
 })
 
@@ -40,6 +40,6 @@ returns-in-Used c = rw c.in-Used.is (λ p s. record {
 pub returns-in-Count : goal.returns-in-Count
 returns-in-Count c = rw c.in-Count.is (λ p s. record {
   stands = s;
-  answers = rw c.nodes.ensures (ap Ok (told_value (λ x. answer.Nodes c.in-Count.line x) c.count.result _ (count_line p c.in-Count.line) (c.count.ensures.tells p s.holds)));
+  answers = rw (answer_made (λ x. answer.Nodes c.in-Count.line x) c.count-told.result c.answered-in-Count.result _ (λ x e. search rules) c.answered-in-Count.ensures) (ap Ok (told_value (λ x. answer.Nodes c.in-Count.line x) c.count-told.result _ (count_line p c.in-Count.line) (c.count-told.ensures.tells p s.holds)));
   wrote = refl;
 })
