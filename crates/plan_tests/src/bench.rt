@@ -6,6 +6,7 @@ use faults::fault::Fault;
 use map_tests::truth::{addresses, bits, settings};
 use model::Node;
 use plans::open::OpenPlan;
+use rows::hand::Hand;
 use std::alloc::{AllocError, Global};
 use std::process::Abort;
 use std::test::Fail;
@@ -13,14 +14,6 @@ use trees::tree::Record;
 
 // What is told where nothing is refused.
 pub const DONE: &'static str = "DONE";
-
-// How much of the tables is lent to a call.
-#[derive(Clone, Copy)]
-pub struct Lent {
-    pub nodes: usize,
-    pub records: usize,
-    pub work: usize,
-}
 
 // The tables have a node, a record and a number more than are lent. Only lines below 8 have truth tables.
 #[derive(Drop)]
@@ -30,7 +23,7 @@ pub struct Bench<'a> {
     nodes: Vec<Node>,
     records: Vec<Record>,
     work: Vec<u32>,
-    lent: Lent,
+    lent: Hand,
     lines: [Option<Table>; 8],
 }
 
@@ -59,7 +52,7 @@ fn shown(heap: Global, told: Option<Fault>) -> Result<String, AllocError> {
 impl<'a> Bench<'a> {
     // A new plan of so many nodes, and just the work that it asks for.
     pub fn new(heap: Global, order: &'a [u8], size: u8) -> Result<Bench<'a>, Fail> {
-        let lent = Lent {
+        let lent = Hand {
             nodes: size as usize,
             records: 15,
             work: 4 * (order.len() % 21 + 1) * (size as usize + 2),
@@ -77,7 +70,7 @@ impl<'a> Bench<'a> {
     }
 
     // What a call tells with so much lent, as it prints.
-    fn told(&mut self, heap: Global, step: Step, lent: Lent) -> Result<String, AllocError> {
+    fn told(&mut self, heap: Global, step: Step, lent: Hand) -> Result<String, AllocError> {
         let pins = self.order.len();
         let nodes = front(&mut self.nodes, lent.nodes);
         let records = front(&mut self.records, lent.records);
@@ -158,7 +151,7 @@ impl<'a> Bench<'a> {
         &mut self,
         rt: &(impl Abort + AllocGlobal),
         step: Step,
-        lent: Lent,
+        lent: Hand,
         told: &str,
     ) -> Result<(), Fail> {
         assert_eq!(rt; self.told(rt.alloc(), step, lent)?.as_str(), told);

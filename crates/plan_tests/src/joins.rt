@@ -1,7 +1,7 @@
 // Joins of all tables of bits of 2 pins, and of all tables of four settings of 1 pin, also of a line with itself.
 use crate::bench::{Bench, DONE};
 use crate::steps::Step;
-use crate::truth::How;
+use scripts::request::How;
 use std::process::Abort;
 use std::test::Fail;
 

@@ -1,29 +1,30 @@
 // Each ground of each call, with the number, the layer and the place that it tells.
-use crate::bench::{Bench, DONE, Lent};
+use crate::bench::{Bench, DONE};
 use crate::steps::Step;
-use crate::truth::How;
 use model::Node;
 use plans::open::OpenPlan;
+use rows::hand::Hand;
+use scripts::request::How;
 use std::process::Abort;
 use std::test::Fail;
 
 // For 2 pins and 3 nodes: 3 tree records, and 60 numbers of work.
-const LENT: Lent = Lent {
+const LENT: Hand = Hand {
     nodes: 3,
     records: 3,
     work: 60,
 };
 
-const FEWER_NODES: Lent = Lent { nodes: 2, ..LENT };
+const FEWER_NODES: Hand = Hand { nodes: 2, ..LENT };
 
-const MORE_NODES: Lent = Lent { nodes: 4, ..LENT };
+const MORE_NODES: Hand = Hand { nodes: 4, ..LENT };
 
-const LESS_WORK: Lent = Lent { work: 59, ..LENT };
+const LESS_WORK: Hand = Hand { work: 59, ..LENT };
 
-const FEWER_RECORDS: Lent = Lent { records: 2, ..LENT };
+const FEWER_RECORDS: Hand = Hand { records: 2, ..LENT };
 
 // A call, what is lent to it, and how its refusal prints.
-type Row = (Step, Lent, &'static str);
+type Row = (Step, Hand, &'static str);
 
 // Lines 0 and 1 of bits and lines 2 and 3 of one code each, 1 and 8, use all three nodes; lines 4 to 31 are empty.
 const HELD: [Step; 4] = [

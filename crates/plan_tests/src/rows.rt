@@ -1,7 +1,7 @@
 // A row of calls over 1 to 4 pins, in several orders.
 use crate::bench::{Bench, DONE};
 use crate::steps::Step;
-use crate::truth::How;
+use scripts::request::How;
 use std::process::Abort;
 use std::test::Fail;
 

@@ -1,6 +1,5 @@
 // Calls on a plan, with the pattern of a truth table in place of a source.
-use crate::truth::{How, SETTINGS};
-use ends::joining::{Both, Differ, Either, Joining, Overlay};
+use crate::truth::SETTINGS;
 use faults::fault::Fault;
 use map_tests::samples::{bit_file, setting_file};
 use map_tests::truth::{bits, settings};
@@ -10,8 +9,10 @@ use readers::bit_file::Bits;
 use readers::kind::Kind;
 use readers::map_file::MapFile;
 use readers::setting_file::Settings;
+use scripts::request::How;
 use std::alloc::{AllocError, Global};
 use trees::tree::Record;
+use workbench::joining::join;
 
 // A call as a value, so that rows of calls are tables. A draw has the pattern of a table of the plan's pins, or no
 // table but another number of pins. The line that is written comes last.
@@ -38,24 +39,6 @@ fn draw<K: Kind>(
     work: &mut [u32],
 ) -> Result<(), Fault> {
     plan.draw(&MapFile::<K>::over(bytes), d, nodes, records, work)
-}
-
-// Each joining on the same lines.
-fn join(
-    plan: &mut OpenPlan,
-    how: How,
-    a: u8,
-    b: u8,
-    d: u8,
-    nodes: &mut [Node],
-    work: &mut [u32],
-) -> Result<(), Fault> {
-    match how {
-        How::Both => plan.join(&Both, a, b, d, nodes, work),
-        How::Either => plan.join(&Either, a, b, d, nodes, work),
-        How::Differ => plan.join(&Differ, a, b, d, nodes, work),
-        How::Overlay => plan.join(&Overlay, a, b, d, nodes, work),
-    }
 }
 
 // Makes the call on a plan of so many pins, and hands back its refusal. The tables are three parameters, as in the calls

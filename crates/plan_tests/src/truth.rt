@@ -1,20 +1,12 @@
 // What joins and straps make of truth tables.
 use map_tests::truth::{self, addresses, code_at};
+use scripts::request::How;
 use std::array;
 
 pub type Table = truth::Table<16>;
 
 // Chip 0 with 1 wait, chip 1 with none, and chips 2 and 3 with 1 wait each, so that the left of them wins.
 pub const SETTINGS: [u16; 4] = [1, 8, 17, 25];
-
-// How two lines are joined. A joining is a type of its own; rows of tests need a value for each.
-#[derive(Clone, Copy)]
-pub enum How {
-    Both,
-    Either,
-    Differ,
-    Overlay,
-}
 
 // The bit of an address that a pin is; pin 0 is the highest.
 pub fn bit_of(pins: usize, pin: u8) -> usize {

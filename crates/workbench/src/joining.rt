@@ -9,7 +9,7 @@ use plans::open::OpenPlan;
 use scripts::request::How;
 
 // Joins two lines on a third, by a joining of that name.
-pub(crate) fn join(
+pub fn join(
     plan: &mut OpenPlan,
     how: How,
     left: u8,

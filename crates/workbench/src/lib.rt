@@ -6,7 +6,7 @@ pub mod desk;
 mod drawing;
 mod handing;
 mod issued;
-mod joining;
+pub mod joining;
 pub mod laws;
 mod making;
 mod opened;
