@@ -1,5 +1,5 @@
 -- Positions of an order, and its pins.
-use Rattle.std.proofs.Common.{◌≡◌, ℕ, zero, suc, ◌<◌, ◌≤◌, Bool, true, false, cond, ◌||◌, ◌==◌, List, [], ◌∷◌, length, get_or, take, Some, None, Option, sym, refl, ap, ◌∙◌, subst, inl, inr, add-one, arith, le-ltb, ne_eqb}
+use Rattle.std.proofs.Common.{◌≡◌, ℕ, zero, suc, ◌<◌, ◌≤◌, Bool, true, false, cond, ◌||◌, ◌==◌, List, [], ◌∷◌, length, get_or, take, Some, None, Ok, Err, Option, Result, sym, refl, ap, ◌∙◌, subst, inl, inr, add-one, arith, le-ltb, ne_eqb}
 use borrow.Author.Tests.{lt-leb}
 use Rattle.std.specs.List.{list_any, AllWithin, HoldsAt}
 use Rattle.std.proofs.lemmas.List.Folds.{list_any_more}
@@ -13,6 +13,7 @@ use Rattle.model.specs.Lists.{In, Apart}
 use Rattle.model.specs.Orders.{Order, place_in}
 use Rattle.plans.specs.Orders.{among, misplaced, misplaced_below, OrdersTold}
 use Rattle.plans.specs.Plain.{make_told}
+use Rattle.plans.specs.Results.{refusal}
 
 -- what a search of the front tells
 pub any_among : (order : List ℕ) (p k : ℕ) → k ≤ length order → list_any (λ q. q == p) (take k order) ≡ among order p k
@@ -41,6 +42,11 @@ below_found order i e m (suc k) h =
 pub make_accepted : (order : List ℕ) (size : ℕ) → 1 ≤ length order → length order ≤ 20 → misplaced_below order (length order) ≡ None → 1 ≤ size → size ≤ 4096 → make_told order size ≡ None
 make_accepted order size a b m c d =
     simp (le-ltb (length order) 1 a, le-ltb 20 (length order) b, m, le-ltb size 1 c, le-ltb 4096 size d)
+
+-- a refusal at a position, if there is one
+pub told_at : (o : Option ℕ) (r : Result (Unit {0}) Fault) (P : ℕ → Type 0) → ((i : ℕ) → P i → r ≡ Err (at OrderPin i)) → MatchOption o (r ≡ Ok tt) P → refusal r ≡ option_map (at OrderPin) o
+told_at (Some i) r P tells e = ap refusal (tells i e)
+told_at None r P tells e = ap refusal e
 
 -- where the elements of a list stand
 at_in : (xs : List ℕ) (i : ℕ) → i < length xs → In (get_or xs i 0) xs

@@ -24,10 +24,9 @@ fn is_misplaced(order: &[u8], i: usize) -> bool
 pub(crate) fn check_order(order: &[u8]) -> Result<(), Fault>
     ensures { refusal result ≡ misplaced_below order.now (length order.now) }
 {
-    match (0..order.len()).find(|i| is_misplaced(order, *i)) {
-        Some(i) => Err(Ground::OrderPin.at(i)),
-        None => Ok(()),
-    }
+    (0..order.len())
+        .find(|i| is_misplaced(order, *i))
+        .map_or(Ok(()), |i| Err(Ground::OrderPin.at(i)))
 }
 
 // The order in the room of a header.

@@ -2,7 +2,7 @@ ghost use Rattle.std.specs.Prelude.{◌≡◌, ℕ, ◌+◌, ◌%◌, ◌^◌, �
 ghost use Rattle.tables.specs.Indexes.{spread, spread_branch};
 ghost use Rattle.tables.specs.Probes.{Probed, Freed, Enters, Indexes};
 
-use crate::marking::clear;
+use crate::marking::{clear, is_unmarked};
 use crate::reading::node_at;
 use model::{Branch, Node};
 
@@ -56,23 +56,14 @@ pub(crate) fn probe(nodes: &[Node], index: &[u32], wanted: Node) -> Found
     Found::Full
 }
 
-// The first slot that is not live.
-fn first_free(marks: &[u32]) -> Option<usize>
-    ensures { Freed marks.now result }
-{
-    marks.iter().position(|mark| *mark == 0)
-}
-
 // A slot that is not live, sought from some slot on, going round.
 pub(crate) fn free_slot(marks: &[u32], start: usize) -> Option<usize>
     ensures { Freed marks.now result }
 {
     let start = start.checked_rem(marks.len())?;
-    let (before, after) = marks.split_at(start);
-    match first_free(after) {
-        Some(far) => Some(start + far),
-        None => first_free(before),
-    }
+    (start..marks.len())
+        .chain(0..start)
+        .find(|slot| is_unmarked(marks, *slot))
 }
 
 // Enters the node of a slot into the index, unless one alike is there or the index is full.

@@ -14,10 +14,10 @@ pub(crate) fn clear(entries: &mut [u32])
 }
 
 // Whether a node is in the table and not marked.
-fn is_unmarked(marks: &[u32], i: u16) -> bool
+pub(crate) fn is_unmarked(marks: &[u32], i: usize) -> bool
     ensures { Decides result ((i < length marks.now) × (slice_index marks.now i ≡ 0)) }
 {
-    marks.get(usize::from(i)) == Some(&0)
+    marks.get(i) == Some(&0)
 }
 
 // Marks what is reached from a branch whose places are `place` and later, but is not marked yet.
@@ -27,7 +27,7 @@ fn mark_from(nodes: &[Node], marks: &mut [u32], pins: u8, place: u8, branch: Bra
     let Branch::Node(i) = branch else {
         return;
     };
-    if !is_unmarked(marks, i) {
+    if !is_unmarked(marks, i as usize) {
         return;
     }
     let node = node_at(nodes, i);
