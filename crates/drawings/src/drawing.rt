@@ -3,14 +3,11 @@ ghost use Rattle.tables.specs.Additions.{KeepsLoans};
 ghost use Rattle.drawings.specs.Fixed.{bit_of};
 ghost use Rattle.drawings.specs.Draws.{DrawsIn, DrawsRoot};
 
-use model::{Branch, Node};
+use model::{Branch, MOST_PINS, Node};
 use tables::adding::Growing;
 use tables::line::Line;
 use trees::read::FixedBits;
 use trees::tree::{Record, Tree};
-
-// No plan has more pins.
-const MOST_PINS: usize = 20;
 
 // The bit of a pin in an address; pin 0 is the top bit.
 fn pin_bit(pins: usize, pin: u8) -> u32

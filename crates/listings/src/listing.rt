@@ -4,7 +4,7 @@ ghost use Rattle.listings.specs.Lists.{ListsLines};
 use crate::numbers::{Numbering, number_nodes};
 use crate::writing::{Pins, write_listing};
 use faults::fault::{Fault, Ground};
-use model::Node;
+use model::{MOST_PINS, Node};
 use tables::line::Line;
 
 // How long a listing of 32 lines is.
@@ -25,7 +25,7 @@ pub fn list_lines(
     ensures { ListsLines nodes.now (length work.old) pins.now lines.now buffer.old result buffer.new }
 {
     let pin_count = pins.len();
-    if pin_count > 20 {
+    if pin_count > MOST_PINS {
         return Err(Ground::OrderLength.at(pin_count));
     }
     let pins = Pins { order: pins };

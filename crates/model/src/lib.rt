@@ -5,6 +5,9 @@ ghost use Rattle.model.specs.Diagrams.{blank, side};
 
 pub mod theorems;
 
+// An order has at most so many pins.
+pub const MOST_PINS: usize = 20;
+
 // Where a diagram goes on: at an end, by its code, or at a node, by its number.
 // By number, since nodes stand in a table that the caller lends, and no heap may hold them.
 #[derive(Clone, Copy, PartialEq, Eq, Drop, Debug)]

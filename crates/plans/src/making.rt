@@ -6,7 +6,8 @@ use crate::header::{Header, Usage};
 use crate::open::OpenPlan;
 use crate::order::{check_order, padded};
 use faults::fault::{Fault, Ground};
-use model::Node;
+use model::{MOST_PINS, Node};
+use tables::indexing::MOST_NODES;
 use tables::line::Line;
 
 impl OpenPlan {
@@ -15,12 +16,12 @@ impl OpenPlan {
         ensures { MatchResult result (λ plan. Made order.now nodes.now plan.header) (λ f. make_told order.now (length nodes.now) ≡ Some f) }
     {
         let pins = order.len();
-        if pins < 1 || pins > 20 {
+        if pins < 1 || pins > MOST_PINS {
             return Err(Ground::OrderLength.at(pins));
         }
         check_order(order)?;
         let size = nodes.len();
-        if size < 1 || size > 4096 {
+        if size < 1 || size > MOST_NODES {
             return Err(Ground::NodeTable.at(size));
         }
         let header = Header {

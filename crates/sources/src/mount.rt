@@ -6,7 +6,7 @@ ghost use Rattle.sources.specs.Steps.{with_fill};
 use crate::block::Block;
 use crate::mounted::Mounted;
 use crate::overlap::{Overlap, overlap_of};
-use crate::source::{Answer, Source};
+use crate::source::{Answer, MOST_PINS, Source};
 use ends::end::End;
 use faults::fault::{Fault, Ground};
 
@@ -16,7 +16,7 @@ impl<S: Source + Drop> Mounted<S> {
         ensures { MatchResult result (λ s. (mount_fault pins (S.Source.width below) base ≡ None) × (s.below ≡ below) × (s.pins ≡ pins) × (s.base ≡ base) × (s.fill ≡ fill)) (λ f. mount_fault pins (S.Source.width below) base ≡ Some f) }
     {
         let own = below.pins();
-        if own > pins || pins > 20 {
+        if own > pins || pins > MOST_PINS {
             return Err(Ground::SourceLayer.at(pins as usize));
         }
         if base >= 1 << (pins - own) {

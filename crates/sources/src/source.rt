@@ -27,6 +27,9 @@ impl<E> Answer<E> {
     }
 }
 
+// No source has more pins.
+pub const MOST_PINS: u32 = 20;
+
 // A source means a pin count, 1 to 20, and an end for each address.
 pub trait Source {
     type Of: End;

@@ -5,7 +5,7 @@ ghost use Rattle.model.specs.declared.Branch.TheVariants.{End as end};
 ghost use Rattle.model.specs.Selections.{pin};
 ghost use Rattle.tables.specs.Reads.{place_of};
 
-use model::{Branch, Node};
+use model::{Branch, MOST_PINS, Node};
 
 // The node of that number: blank past the end of the table.
 pub fn node_at(nodes: &[Node], i: u16) -> Node
@@ -70,7 +70,7 @@ pub fn read(nodes: &[Node], order: &[u8], root: Branch, address: u32) -> u16
     ensures { length order.now ≤ 20 → ((p : ℕ) → In p order.now → p < length order.now) → result ≡ walk (length order.now) (listed nodes.now) order.now 0 root address }
 {
     let pins = order.len();
-    if pins > 20 {
+    if pins > MOST_PINS {
         return 0;
     }
     let mut branch = root;

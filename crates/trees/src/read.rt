@@ -4,9 +4,7 @@ ghost use Rattle.trees.specs.Records.{Built};
 ghost use Rattle.trees.specs.Walk.{Stands, agreed, bit, fixed, side};
 
 use crate::tree::{Half, Record, Tree};
-
-// No source has more pins.
-const MOST_PINS: u32 = 20;
+use sources::source::MOST_PINS;
 
 // A bit of a number, counted from the lowest.
 fn bit(number: u32, place: u32) -> bool

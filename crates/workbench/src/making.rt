@@ -11,6 +11,7 @@ use crate::sheet::Sheet;
 use faults::fault::{Fault, Ground};
 use model::Node;
 use plans::open::OpenPlan;
+use tables::indexing::MOST_NODES;
 
 // A refusal of the node table, made one of a table of another length.
 fn retold(fault: Fault, count: usize) -> Fault
@@ -43,7 +44,7 @@ pub(crate) fn begin(
 ) -> Result<Answer, Misplaced>
     ensures { (s : Situation) (r w b : ℕ) → Stands desk.old nodes.now s → Begun (handed (length nodes.now) r w b) s count order.now desk.new nodes.now result }
 {
-    if count > 4096 {
+    if count > MOST_NODES {
         return Ok(Answer::Refused(refusal_of_many(order, count)));
     }
     if count > nodes.len() {
