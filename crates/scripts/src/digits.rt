@@ -9,13 +9,11 @@ use crate::mistake::Mistake;
 fn with_digit(before: u64, base: u32, digit: u32, most: u64) -> Result<u64, Mistake>
     ensures { result ≡ (if nat_lt most (before * base + digit) then Err TooLarge else Ok (before * base + digit)) }
 {
-    match before.checked_mul(u64::from(base)) {
-        Some(shifted) => match shifted.checked_add(u64::from(digit)) {
-            Some(n) if n <= most => Ok(n),
-            _ => Err(Mistake::TooLarge),
-        },
-        None => Err(Mistake::TooLarge),
-    }
+    before
+        .checked_mul(u64::from(base))
+        .and_then(|shifted| shifted.checked_add(u64::from(digit)))
+        .filter(|n| *n <= most)
+        .ok_or(Mistake::TooLarge)
 }
 
 fn value_of(base: u32, most: u64, digits: &[u8]) -> Result<u64, Mistake>

@@ -40,10 +40,7 @@ pub(crate) fn mounted_at(text: &[u8]) -> Result<(Option<Mount<u16>>, &[u8]), Par
 fn end_of<E: End>(code: u16) -> Result<E, Mistake>
     ensures { result ≡ end_of E.End.decoded code }
 {
-    match E::decode(code) {
-        Some(end) => Ok(end),
-        None => Err(Mistake::NoEnd),
-    }
+    E::decode(code).ok_or(Mistake::NoEnd)
 }
 
 fn mount_of<E: End>(mounted: Option<Mount<u16>>) -> Result<Option<Mount<E>>, Mistake>

@@ -31,94 +31,58 @@ pub(crate) enum Verb {
 pub(crate) fn verb_of(word: &[u8]) -> Result<Verb, Mistake>
     ensures { result ≡ verb_of word.now }
 {
-    if word == b"plan".as_slice() {
-        return Ok(Verb::Plan);
+    match word {
+        b"plan" => Ok(Verb::Plan),
+        b"tables" => Ok(Verb::Tables),
+        b"draw" => Ok(Verb::Draw),
+        b"join" => Ok(Verb::Join),
+        b"strap" => Ok(Verb::Strap),
+        b"erase" => Ok(Verb::Erase),
+        b"read" => Ok(Verb::Read),
+        b"same" => Ok(Verb::Same),
+        b"used" => Ok(Verb::Used),
+        b"count" => Ok(Verb::Count),
+        b"issue" => Ok(Verb::Issue),
+        b"reopen" => Ok(Verb::Reopen),
+        b"list" => Ok(Verb::List),
+        _ => Err(Mistake::UnknownCall),
     }
-    if word == b"tables".as_slice() {
-        return Ok(Verb::Tables);
-    }
-    if word == b"draw".as_slice() {
-        return Ok(Verb::Draw);
-    }
-    if word == b"join".as_slice() {
-        return Ok(Verb::Join);
-    }
-    if word == b"strap".as_slice() {
-        return Ok(Verb::Strap);
-    }
-    if word == b"erase".as_slice() {
-        return Ok(Verb::Erase);
-    }
-    if word == b"read".as_slice() {
-        return Ok(Verb::Read);
-    }
-    if word == b"same".as_slice() {
-        return Ok(Verb::Same);
-    }
-    if word == b"used".as_slice() {
-        return Ok(Verb::Used);
-    }
-    if word == b"count".as_slice() {
-        return Ok(Verb::Count);
-    }
-    if word == b"issue".as_slice() {
-        return Ok(Verb::Issue);
-    }
-    if word == b"reopen".as_slice() {
-        return Ok(Verb::Reopen);
-    }
-    if word == b"list".as_slice() {
-        return Ok(Verb::List);
-    }
-    Err(Mistake::UnknownCall)
 }
 
 #[tactic(auto, unfolding(crate::specs::Grammar::how_of))]
 fn how_of(word: &[u8]) -> Result<How, Mistake>
     ensures { result ≡ how_of word.now }
 {
-    if word == b"both".as_slice() {
-        return Ok(How::Both);
+    match word {
+        b"both" => Ok(How::Both),
+        b"either" => Ok(How::Either),
+        b"differ" => Ok(How::Differ),
+        b"overlay" => Ok(How::Overlay),
+        _ => Err(Mistake::UnknownJoining),
     }
-    if word == b"either".as_slice() {
-        return Ok(How::Either);
-    }
-    if word == b"differ".as_slice() {
-        return Ok(How::Differ);
-    }
-    if word == b"overlay".as_slice() {
-        return Ok(How::Overlay);
-    }
-    Err(Mistake::UnknownJoining)
 }
 
 #[tactic(auto, unfolding(crate::specs::Grammar::is_high))]
 fn is_high(word: &[u8]) -> Result<bool, Mistake>
     ensures { result ≡ is_high word.now }
 {
-    if word == b"low".as_slice() {
-        return Ok(false);
+    match word {
+        b"low" => Ok(false),
+        b"high" => Ok(true),
+        _ => Err(Mistake::UnknownLevel),
     }
-    if word == b"high".as_slice() {
-        return Ok(true);
-    }
-    Err(Mistake::UnknownLevel)
 }
 
 #[tactic(auto, unfolding(crate::specs::Grammar::format_of))]
 fn format_of(word: &[u8]) -> Result<Format, Mistake>
     ensures { result ≡ format_of word.now }
 {
-    if word == b"bits".as_slice() {
-        return Ok(Format::Bits);
+    match word {
+        b"bits" => Ok(Format::Bits),
+        b"settings" => Ok(Format::Settings),
+        b"ranges" => Ok(Format::Ranges),
+        _ => Err(Mistake::UnknownKind),
     }
-    if word == b"settings".as_slice() {
-        return Ok(Format::Settings);
-    }
-    if word == b"ranges".as_slice() {
-        return Ok(Format::Ranges);
-    }
-    Err(Mistake::UnknownKind)
 }
 
 pub(crate) fn how_at(text: &[u8]) -> Result<(How, &[u8]), ParseError>

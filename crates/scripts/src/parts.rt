@@ -11,10 +11,7 @@ use crate::word::next_word;
 pub(crate) fn word_at(text: &[u8]) -> Result<(&[u8], &[u8]), ParseError>
     ensures { Gives (λ x. (x.0.now, words x.1.now)) result (word_at (words text.now)) }
 {
-    match next_word(text) {
-        Some(found) => Ok(found),
-        None => Err(ParseError::Mistake(Mistake::MissingWord)),
-    }
+    next_word(text).ok_or(ParseError::Mistake(Mistake::MissingWord))
 }
 
 #[tactic(auto, unfolding(crate::specs::Grammar::number_at))]
@@ -59,10 +56,10 @@ pub(crate) fn length_at(text: &[u8]) -> Result<(usize, &[u8]), ParseError>
 pub(crate) fn end(text: &[u8]) -> Result<(), ParseError>
     ensures { Gives (λ _. tt) result (nothing (words text.now)) }
 {
-    match next_word(text) {
-        Some(_) => Err(ParseError::Mistake(Mistake::SurplusWord)),
-        None => Ok(()),
+    if next_word(text).is_some() {
+        return Err(ParseError::Mistake(Mistake::SurplusWord));
     }
+    Ok(())
 }
 
 // Whether a word stands in front, which is then taken off.
