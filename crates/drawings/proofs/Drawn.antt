@@ -22,17 +22,13 @@ use Rattle.drawings.specs.Fixed.{Fixed, bit_of}
 use Rattle.tables.specs.declared.adding.Growing.{Growing}
 use Rattle.drawings.specs.Draws.{Draws, DrawsIn, DrawsRoot}
 use Rattle.drawings.proofs.Fixing.{one_code, fixed_low, fixed_high, all_fixed, none_fixed}
+use Rattle.model.proofs.Lists.{in_get_or}
 
 -- the pins from a place on
 apart_drop : (ps : List ℕ) (d : ℕ) → Apart ps → Apart (drop d ps)
 apart_drop ps zero a = a
 apart_drop [] (suc d) a = tt
 apart_drop (p ∷ ps) (suc d) a = apart_drop ps d a.1
-
-at_in : (ps : List ℕ) (d : ℕ) → d < length ps → In (get_or ps d 0) ps
-at_in [] d l = absurd (omega arith)
-at_in (p ∷ ps) zero l = inl refl
-at_in (p ∷ ps) (suc d) l = inr (at_in ps d (omega arith))
 
 module _ (tree : Tree) (records : List Record) (order : List ℕ) (d mask value : ℕ) (nodes : List Node) (marks index : List ℕ) where
   abbrev n : ℕ
@@ -62,7 +58,7 @@ module _ (tree : Tree) (records : List Record) (order : List ℕ) (d mask value 
       rest = drop (d + 1) order
 
       below : p < n
-      below = names.small p (at_in order d inside)
+      below = names.small p (in_get_or order d inside)
 
       bit_is : bit ≡ bit_of n p
       bit_is = is_bit (let few = built.few in omega (arith, long)) (let b = below in omega (arith, long)) ∙ ap (λ x. bit_of x p) long

@@ -8,7 +8,8 @@ use Rattle.files.specs.declared.format.Format.TheVariants.{Bits, Settings, Range
 use Rattle.files.specs.Formats.{mark_of, header_size, pins_of, count_of, first_of, last_of, code_of, code_limit}
 use Rattle.files.specs.Verdict.{marked, of_kind, header_fault, first_fault, switch_fault, range_fault, later_fault, entry_fault, entries_fault, fault, blank}
 use Rattle.files.specs.Rules.{KindRead, LaidOut, SwitchesObey, RangesObey, EntriesObey, Obeys}
-use Rattle.files.proofs.Scans.{or_left, or_right, or_none, none_of, entries_none, none_entries}
+use Rattle.files.proofs.Scans.{or_none, entries_none, none_entries}
+use Rattle.faults.proofs.Refusing.{or_left, or_right, none_of}
 
 -- three bytes are known one by one
 front : (bs : List ℕ) (a b c : ℕ) → 3 ≤ length bs → get_or bs 0 0 ≡ a → get_or bs 1 0 ≡ b → get_or bs 2 0 ≡ c → take 3 bs ≡ a ∷ b ∷ c ∷ []

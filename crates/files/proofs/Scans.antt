@@ -6,21 +6,10 @@ use Rattle.faults.specs.Refusals.{or_else, is_none}
 use Rattle.files.specs.declared.format.Format.{Format}
 use Rattle.files.specs.Formats.{count_of}
 use Rattle.files.specs.Verdict.{entries_fault, entry_fault, header_fault, fault}
-
-pub or_left : (a b : Option Fault) → or_else a b ≡ None → a ≡ None
-or_left (Some f) b e = e
-or_left None b e = refl
-
-pub or_right : (a b : Option Fault) → or_else a b ≡ None → b ≡ None
-or_right (Some f) b e = let z : ◌≡◌ {A = ℕ} 0 1 = cc in absurd (omega arith)
-or_right None b e = e
+use Rattle.faults.proofs.Refusing.{or_left, or_right}
 
 pub or_none : (a b : Option Fault) → a ≡ None → b ≡ None → or_else a b ≡ None
 or_none a b p q = ap (λ o. or_else o b) p ∙ q
-
-pub none_of : {A : Type 0} (o : Option A) → is_none o ≡ true → o ≡ None
-none_of (Some x) e = let z : ◌≡◌ {A = ℕ} 0 1 = cc in absurd (omega arith)
-none_of None e = refl
 
 module _ (k : Format) (bs : List ℕ) where
   pub entries_more : (i : ℕ) → entries_fault k bs i ≡ None → entry_fault k bs i ≡ None → entries_fault k bs (i + 1) ≡ None

@@ -3,9 +3,8 @@ use Rattle.std.proofs.Common.{◌≡◌, ℕ, zero, suc, ◌+◌, ◌<◌, ◌�
 use Rattle.std.proofs.lemmas.List.{get_or-set_same, get_or-set_other, take_more}
 use Rattle.std.proofs.lemmas.Bool.{eq-eqb}
 use Rattle.model.specs.Lists.{In, Apart, spot}
-use Rattle.model.proofs.Lists.{in-++, in_cast}
+use Rattle.model.proofs.Lists.{in-++, in_cast, in_get_or}
 use Rattle.model.proofs.Onces.{tells_eqb, tells_ne}
-use Rattle.tables.proofs.Walks.{in_get_or}
 
 spot_at : (xs : List ℕ) (k : ℕ) → Apart xs → k < length xs → spot eqb xs (get_or xs k 0) ≡ k
 spot_at [] k a l = absurd (omega arith)

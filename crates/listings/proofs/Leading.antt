@@ -7,8 +7,8 @@ use Rattle.model.specs.Lists.{In, without, once, flat, held}
 use Rattle.model.specs.Diagrams.{Table, next}
 use Rattle.model.proofs.Onces.{tells_eqb, keep_swap, keep_twice}
 use Rattle.tables.proofs.Marks.{root_held}
-use Rattle.tables.proofs.Walks.{in_get_or}
 use Rattle.listings.specs.Fronts.{nodes_of, leads, Small, Grown, Meets, MeetsBoth, LeadsInside, AllShort}
+use Rattle.model.proofs.Lists.{in_get_or}
 
 without_once : (x : ℕ) (zs ys : List ℕ) → without eqb x (once eqb (without eqb x zs ++ ys)) ≡ without eqb x (once eqb (zs ++ ys))
 without_once x [] ys = refl

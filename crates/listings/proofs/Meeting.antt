@@ -4,16 +4,12 @@ use Rattle.std.proofs.lemmas.List.{append-nil}
 use Rattle.std.proofs.lemmas.Bool.{eq-eqb, not_from_false}
 use Rattle.model.specs.Lists.{In, Apart, keep, without, once}
 use Rattle.model.proofs.Lists.{in-++, in-++-left, in-++-right, apart-++, pigeonhole, in_cast}
-use Rattle.model.proofs.Onces.{tells_eqb, tells_ne, keep-++, once_apart}
+use Rattle.model.proofs.Onces.{tells_eqb, tells_ne, keep-++, once_apart, keep_all}
 use Rattle.model.proofs.Marks.{marked, in_marked, length_marked}
 use Rattle.tables.proofs.Marks.{live_inside, live_set, set_live, live_or}
 use Rattle.model.specs.declared.Branch.{Branch}
 use Rattle.model.specs.declared.Branch.TheVariants.{End as end, Node as node}
 use Rattle.listings.specs.Fronts.{Front, Grown, Meets}
-
-keep_all : {A : Type 0} (p : A → Bool) (xs : List A) → ((x : A) → In x xs → p x ≡ true) → keep p xs ≡ xs
-keep_all p [] h = refl
-keep_all p (x ∷ xs) h = ap (λ q. cond q (x ∷ keep p xs) (keep p xs)) (h x (inl refl)) ∙ ap (λ z. x ∷ z) (keep_all p xs (λ y m. h y (inr m)))
 
 without_absent : (x : ℕ) (xs : List ℕ) → (In x xs → ⊥) → without eqb x xs ≡ xs
 without_absent x xs n = keep_all (λ y. not (eqb x y)) xs (λ y m. not_from_false (eqb x y) (tells_ne eqb tells_eqb x y (λ e. n (in_cast y x xs (sym e) m))))

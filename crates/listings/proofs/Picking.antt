@@ -7,7 +7,7 @@ use Rattle.model.proofs.Onces.{keep-++}
 use Rattle.listings.specs.Fronts.{asks, AllShort, Picks}
 use Rattle.listings.specs.Labels.{short}
 use Rattle.listings.proofs.Shortening.{short_is}
-use Rattle.tables.proofs.Walks.{in_get_or}
+use Rattle.model.proofs.Lists.{in_get_or}
 
 -- one node
 module _ (T : Table) (d i room : ℕ) (order : List ℕ) (test : Bool) (told : test ≡ asks T d (short i)) where

@@ -6,32 +6,9 @@ use Rattle.model.specs.declared.Branch.TheVariants.{End as end, Node as node}
 use Rattle.model.specs.declared.Node.{Node}
 use Rattle.model.specs.Lists.{flat, each}
 use Rattle.model.specs.Diagrams.{Table}
-use Rattle.model.specs.Listings.{two_bytes, reference, line_reference, node_bytes, bytes}
+use Rattle.model.specs.Listings.{two_bytes, line_reference, node_bytes, bytes}
+use Rattle.model.proofs.Bytes.{length_flat, line_length, node_length}
 use Rattle.listings.specs.Labels.{short, relabel, relabelled, labelled, head}
-
-flat_length : {X : Type 0} (g : X → List ℕ) (m : ℕ) → ((x : X) → length (g x) ≡ m) → (xs : List X) → length (flat g xs) ≡ m * length xs
-flat_length g m h [] = omega arith
-flat_length g m h (x ∷ xs) =
-    let a = h x in
-    let b = flat_length g m h xs in
-    let c = length-append (g x) (flat g xs) in
-    let d = mul-suc m (length xs) in
-    omega arith
-
-reference_length : (b : Branch) → length (reference b) ≡ 3
-reference_length (end c) = refl
-reference_length (node i) = refl
-
-pub node_length : (k : Node) → length (node_bytes k) ≡ 7
-node_length k =
-    let a = reference_length k.low in
-    let b = reference_length k.high in
-    let c = length-append (reference k.low) (reference k.high) in
-    omega arith
-
-pub line_length : (l : Option Branch) → length (line_reference l) ≡ 3
-line_length None = refl
-line_length (Some b) = reference_length b
 
 -- The bytes of each item of a list, m of them, written behind what stands there.
 abbrev pub WrittenSoFar : {A B : Type 0} → (B → List ℕ) → (A → B) → List A → ℕ → List ℕ → List ℕ → Type 0
@@ -41,19 +18,19 @@ pub written_length : {A B : Type 0} (g : B → List ℕ) (h : A → B) (xs : Lis
 written_length g h xs k out out' far m long less =
     let a = ap length far in
     let b = length-append out (flat g (map h (take k xs))) in
-    let f = flat_length g m long (map h (take k xs)) ∙ ap (λ n. m * n) (length-map (take k xs) h ∙ length-take-le k xs less) in
+    let f = length_flat g m long (map h (take k xs)) ∙ ap (λ n. m * n) (length-map (take k xs) h ∙ length-take-le k xs less) in
     omega arith
 
 -- how long the nodes and the lines are
 pub nodes_length : (T : Table) (order numbers : List ℕ) → length (flat node_bytes (labelled T order numbers []).nodes) ≡ 7 * length order
 nodes_length T order numbers =
-    let f = flat_length node_bytes 7 node_length (labelled T order numbers []).nodes in
+    let f = length_flat node_bytes 7 node_length (labelled T order numbers []).nodes in
     let m = length-map order (λ i. relabelled numbers (T (short i))) in
     omega arith
 
 pub lines_length : (numbers : List ℕ) (lines : List (Option Branch)) → length (flat line_reference (map (each (relabel numbers)) lines)) ≡ 3 * length lines
 lines_length numbers lines =
-    let f = flat_length line_reference 3 line_length (map (each (relabel numbers)) lines) in
+    let f = length_flat line_reference 3 line_length (map (each (relabel numbers)) lines) in
     let m = length-map lines (each (relabel numbers)) in
     omega arith
 

@@ -54,7 +54,7 @@ module _ {A : Type 0} (g : A → List ℕ) (tells : (x y : A) (xs ys : List ℕ)
       let t = flat_told us ws xs ys (omega arith) h.1 in
       (ap₂ ◌∷◌ h.0 t.0, t.1)
 
-length_flat : {A : Type 0} (g : A → List ℕ) (k : ℕ) → ((x : A) → length (g x) ≡ k) → (xs : List A) → length (flat g xs) ≡ k * length xs
+pub length_flat : {A : Type 0} (g : A → List ℕ) (k : ℕ) → ((x : A) → length (g x) ≡ k) → (xs : List A) → length (flat g xs) ≡ k * length xs
 length_flat g k h [] = omega (arith, mul-zero k)
 length_flat g k h (x ∷ xs) = let i = length_flat g k h xs in let s = mul-suc k (length xs) in let a = length-append (g x) (flat g xs) in let e = h x in omega arith
 
@@ -62,11 +62,11 @@ reference_length : (b : Branch) → length (reference b) ≡ 3
 reference_length (end c) = refl
 reference_length (node i) = refl
 
-line_length : (b : Option Branch) → length (line_reference b) ≡ 3
+pub line_length : (b : Option Branch) → length (line_reference b) ≡ 3
 line_length None = refl
 line_length (Some b) = reference_length b
 
-node_length : (k : Node) → length (node_bytes k) ≡ 7
+pub node_length : (k : Node) → length (node_bytes k) ≡ 7
 node_length k = let a = length-append (reference k.low) (reference k.high) in let l = reference_length k.low in let h = reference_length k.high in omega arith
 
 cut_front : {A : Type 0} (xs ys zs : List A) → xs ++ ys ≡ xs ++ zs → ys ≡ zs

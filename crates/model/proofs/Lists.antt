@@ -1,5 +1,5 @@
 -- Membership, lists with nothing twice, and the pigeonhole.
-use Rattle.std.proofs.Common.{◌≡◌, ℕ, suc, ◌≤◌, ◌⊎◌, List, [], ◌∷◌, ◌++◌, map, length, Some, None, Option, sym, refl, ap, ◌∙◌, subst, ap₂, inl, inr, zero-le, arith}
+use Rattle.std.proofs.Common.{◌≡◌, ℕ, zero, suc, ◌<◌, ◌≤◌, ◌⊎◌, List, [], ◌∷◌, ◌++◌, map, length, get_or, Some, None, Option, sym, refl, ap, ◌∙◌, subst, ap₂, inl, inr, zero-le, arith}
 use Rattle.model.specs.Lists.{In, Apart, held, each}
 
 -- the list without the place at which x stands
@@ -43,6 +43,12 @@ pub in-++ : {A : Type 0} (x : A) (xs ys : List A) → In x (xs ++ ys) → In x x
 in-++ x [] ys m = inr m
 in-++ x (y ∷ xs) ys (inl e) = inl (inl e)
 in-++ x (y ∷ xs) ys (inr m) = elim (in-++ x xs ys m) [ inl k ↦ inl (inr k) | inr k ↦ inr k ]
+
+-- the element at a position
+pub in_get_or : (xs : List ℕ) (i : ℕ) → i < length xs → In (get_or xs i 0) xs
+in_get_or [] i l = absurd (omega arith)
+in_get_or (x ∷ xs) zero l = inl refl
+in_get_or (x ∷ xs) (suc i) l = inr (in_get_or xs i (omega arith))
 
 pub in_map : {A B : Type 0} (f : A → B) (x : A) (xs : List A) → In x xs → In (f x) (map f xs)
 in_map f x [] m = absurd m

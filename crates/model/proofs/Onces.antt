@@ -62,7 +62,7 @@ keep_map p p' f (x ∷ xs) h = go (p x) (h x (inl refl)) (keep_map p p' f xs (λ
     go true e ih = ap (λ q. cond q (f x ∷ keep p' (map f xs)) (keep p' (map f xs))) e ∙ ap (λ z. f x ∷ z) ih
     go false e ih = ap (λ q. cond q (f x ∷ keep p' (map f xs)) (keep p' (map f xs))) e ∙ ih
 
-keep_all : {A : Type 0} (p : A → Bool) (xs : List A) → ((x : A) → In x xs → p x ≡ true) → keep p xs ≡ xs
+pub keep_all : {A : Type 0} (p : A → Bool) (xs : List A) → ((x : A) → In x xs → p x ≡ true) → keep p xs ≡ xs
 keep_all p [] h = refl
 keep_all p (x ∷ xs) h = ap (λ q. cond q (x ∷ keep p xs) (keep p xs)) (h x (inl refl)) ∙ ap (λ z. x ∷ z) (keep_all p xs (λ y m. h y (inr m)))
 

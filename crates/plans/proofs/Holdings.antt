@@ -16,13 +16,10 @@ use Rattle.plans.specs.Orders.{misplaced_below}
 use Rattle.plans.specs.Plain.{Plain, pins, line, line_empty, is_held}
 use Rattle.plans.specs.Holding.{Heads, Holds, order_of}
 use Rattle.plans.proofs.Naming.{is_order}
+use Rattle.faults.proofs.Refusing.{none_of}
 
 pub none_some : {A : Type 0} (o : Option A) (x : A) → None ≡ o → o ≡ Some x → ⊥
 none_some o x p q = let z : ◌≡◌ {A = ℕ} 0 1 = cc in omega arith
-
-none_of : {A : Type 0} (o : Option A) → is_none o ≡ true → o ≡ None
-none_of (Some x) e = let z : ◌≡◌ {A = ℕ} 0 1 = cc in absurd (omega arith)
-none_of None e = refl
 
 -- the order in a header
 pub order_length : (h : Header) → length (order_of h) ≡ h.pins

@@ -14,6 +14,8 @@ use Rattle.model.specs.Orders.{Order, place_in}
 use Rattle.plans.specs.Orders.{among, misplaced, misplaced_below, OrdersTold}
 use Rattle.plans.specs.Plain.{make_told}
 use Rattle.plans.specs.Results.{refusal}
+use Rattle.faults.proofs.Refusing.{or_left, or_right}
+use Rattle.model.proofs.Lists.{in_get_or}
 
 -- what a search of the front tells
 pub any_among : (order : List ℕ) (p k : ℕ) → k ≤ length order → list_any (λ q. q == p) (take k order) ≡ among order p k
@@ -49,11 +51,6 @@ told_at (Some i) r P tells e = ap refusal (tells i e)
 told_at None r P tells e = ap refusal e
 
 -- where the elements of a list stand
-at_in : (xs : List ℕ) (i : ℕ) → i < length xs → In (get_or xs i 0) xs
-at_in [] i h = absurd (omega arith)
-at_in (x ∷ xs) zero h = inl refl
-at_in (x ∷ xs) (suc i) h = inr (at_in xs i (omega arith))
-
 in_at : (p : ℕ) (xs : List ℕ) → In p xs → (i : ℕ) × (i < length xs) × (get_or xs i 0 ≡ p)
 in_at p [] m = absurd m
 in_at p (x ∷ xs) (inl e) = (0, omega arith, sym e)
@@ -73,20 +70,12 @@ apart_distinct : (xs : List ℕ) → Apart xs → Distinct xs
 unfolding Distinct
 apart_distinct [] a i j h l e = absurd (omega arith)
 apart_distinct (x ∷ xs) a i zero h l e = absurd (omega arith)
-apart_distinct (x ∷ xs) a zero (suc j) h l e = a.0 (subst (λ (y : ℕ). In y xs) (sym e) (at_in xs j (omega arith)))
+apart_distinct (x ∷ xs) a zero (suc j) h l e = a.0 (subst (λ (y : ℕ). In y xs) (sym e) (in_get_or xs j (omega arith)))
 apart_distinct (x ∷ xs) a (suc i) (suc j) h l e = apart_distinct xs a.1 i j (omega arith) (omega arith) e
 
 among_none : (order : List ℕ) (p k : ℕ) → ((i : ℕ) → i < k → get_or order i 0 ≡ p → ⊥) → among order p k ≡ false
 among_none order p zero h = refl
 among_none order p (suc k) h = let r = among_none order p k (λ i l. h i (omega arith)) in let e = ne_eqb (get_or order k 0) p (h k (omega arith)) in simp (r, e)
-
-or_left : (a b : Option Fault) → or_else a b ≡ None → a ≡ None
-or_left (Some f) b e = e
-or_left None b e = refl
-
-or_right : (a b : Option Fault) → or_else a b ≡ None → b ≡ None
-or_right (Some f) b e = let z : ◌≡◌ {A = ℕ} 0 1 = cc in absurd (omega arith)
-or_right None b e = e
 
 passed : (b : Bool) (f : Fault) → refuse_if b f None ≡ None → b ≡ false
 passed true f e = let z : ◌≡◌ {A = ℕ} 0 1 = cc in absurd (omega arith)
@@ -125,7 +114,7 @@ is_order order e = record {
 pub orders_told : OrdersTold
 unfolding Distinct
 orders_told order =
-    (is_order order, λ o. each_none order (length order) (λ i h. placed_at order i (o.small (get_or order i 0) (at_in order i h)) (among_none order (get_or order i 0) i (λ j l q. apart_distinct order o.once j i l h q))))
+    (is_order order, λ o. each_none order (length order) (λ i h. placed_at order i (o.small (get_or order i 0) (in_get_or order i h)) (among_none order (get_or order i 0) i (λ j l q. apart_distinct order o.once j i l h q))))
 
 -- what a search over the positions tells
 pub searched : (order : List ℕ) (a z : ℕ) → a ≡ 0 → z ≡ length order → (r : Option ℕ)

@@ -15,6 +15,7 @@ use Rattle.plans.specs.Plain.{pins, empty_plan, make_told, told, after, changed,
 use Rattle.plans.specs.Holding.{Holds, Did, Counts}
 use Rattle.plans.proofs.Drawings.{draw_work}
 use Rattle.quotes.specs.Quotes.{address_order, quote_plan, quote_call, quote_told, Drawn, Quoted}
+use Rattle.faults.proofs.Refusing.{or_left}
 
 -- a test of the numbers from 1 to k, computed at once
 every : (ℕ → Bool) → ℕ → Bool
@@ -50,10 +51,6 @@ pub address_made : (n : ℕ) → 1 ≤ n → n ≤ 20 → (f : Fault) → make_t
 unfolding fine
 address_made n l h f e =
     let z : ◌≡◌ {A = ℕ} 0 1 = ap (λ (b : Bool). cond b 1 0) (sym (ap is_none e) ∙ every_at fine 20 all_fine n l h) in omega arith
-
-or_left : (a b : Option Fault) → or_else a b ≡ None → a ≡ None
-or_left (Some f) b e = e
-or_left None b e = refl
 
 module _ (bs : List ℕ) where
   draw_decides : fault Bits bs ≡ None → quote_told bs ≡ told (quote_plan bs) (quote_call bs)

@@ -12,6 +12,7 @@ use Rattle.plans.proofs.Naming.{is_order}
 use Rattle.plans.proofs.Listed.{listings_tell}
 use Rattle.rows.specs.Rows.{Lent, runs}
 use Rattle.rows.specs.Laws.{plain_after, listing_told, either_told, written, ListingIsTheLayout, RowsCompared}
+use Rattle.faults.proofs.Refusing.{or_left}
 
 -- a row leaves the order as it is
 
@@ -30,10 +31,6 @@ runs_order p [] = refl
 runs_order p (c ∷ cs) = runs_order (after p c) cs ∙ cond_order (is_none (told p c)) (changed p c) p (changed_order p c)
 
 -- an order in which a plan is made names each of its pins once
-
-or_left : (a b : Option Fault) → or_else a b ≡ None → a ≡ None
-or_left (Some f) b e = e
-or_left None b e = refl
 
 not_refused : (b : Bool) (f : Fault) (o : Option Fault) → refuse_if b f o ≡ None → o ≡ None
 not_refused true f o e = let z : ◌≡◌ {A = ℕ} 0 1 = cc in absurd (omega arith)

@@ -6,11 +6,6 @@ use Rattle.model.specs.Lists.{In}
 use Rattle.model.specs.Selections.{pin}
 use Rattle.model.specs.Diagrams.{Table, next, code, walk}
 
-pub in_get_or : (xs : List ℕ) (i : ℕ) → i < length xs → In (get_or xs i 0) xs
-in_get_or [] i l = absurd (omega arith)
-in_get_or (x ∷ xs) zero l = inl refl
-in_get_or (x ∷ xs) (suc i) l = inr (in_get_or xs i (omega arith))
-
 -- one pin of a walk
 pub walk_on : (n : ℕ) (T : Table) (order : List ℕ) (d : ℕ) (b b' : Branch) (a : ℕ) → d < length order → b' ≡ next T d (pin n a (get_or order d 0)) b
     → walk n T (drop (d + 1) order) (d + 1) b' a ≡ walk n T (drop d order) d b a

@@ -10,8 +10,8 @@ use Rattle.trees.specs.Growth.{alone}
 use Rattle.trees.specs.Records.{divided, records}
 use Rattle.trees.specs.Theorems.{ChangesIn}
 use Rattle.trees.proofs.Differ.{differs_tells, mixed_level}
-use Rattle.trees.proofs.Order.{in_map}
 use Rattle.trees.proofs.Rows.{alone_so, alone_not, upto, upto_none, upto_more, row, row_upto, rows, rows_none, rows_more, rows_all}
+use Rattle.model.proofs.Lists.{in_map}
 
 abbrev one_if : Bool → ℕ
 one_if b = cond b 1 0

@@ -7,6 +7,7 @@ use Rattle.std.proofs.lemmas.Bool.Decides.{eqb_tells}
 use Rattle.model.specs.Lists.{In}
 use Rattle.trees.specs.Mixed.{mixed, Block, mixed_block, level, blocks, mixed_blocks, Before, Ordered}
 use Rattle.trees.specs.Records.{same_block, place}
+use Rattle.model.proofs.Lists.{in_map}
 
 -- membership
 pub in_append_left : {X : Type 0} (x : X) (xs ys : List X) → In x xs → In x (xs ++ ys)
@@ -22,11 +23,6 @@ pub all_in : {X : Type 0} (P : X → Type 0) (x : X) (xs : List X) → AllByRecu
 all_in P x [] a h = absurd h
 all_in P x (y ∷ ys) a (inl e) = subst P (sym e) a.0
 all_in P x (y ∷ ys) a (inr h) = all_in P x ys a.1 h
-
-pub in_map : {X Y : Type 0} (f : X → Y) (x : X) (xs : List X) → In x xs → In (f x) (map f xs)
-in_map f x [] h = absurd h
-in_map f x (y ∷ ys) (inl e) = inl (ap f e)
-in_map f x (y ∷ ys) (inr h) = inr (in_map f x ys h)
 
 in_joined : {X A : Type 0} (f : X → List A) (a : A) (x : X) (xs : List X) → In x xs → In a (f x) → In a (flat_map f xs)
 in_joined f a x [] h g = absurd h

@@ -3,7 +3,8 @@ use Rattle.model.specs.Listings.{line_reference}
 use Rattle.model.specs.Lists.{each}
 use Rattle.listings.specs.Labels.{relabel}
 use Rattle.listings.specs.Rows.{filled}
-use Rattle.listings.proofs.Written.{written_length, line_length}
+use Rattle.listings.proofs.Written.{written_length}
+use Rattle.model.proofs.Bytes.{line_length}
 use Rattle.listings.proofs.writing.put_lines.Goals as goal
 
 pub extend_from_slice-requires : goal.extend_from_slice-requires

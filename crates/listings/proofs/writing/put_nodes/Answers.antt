@@ -3,7 +3,8 @@ use Rattle.model.specs.Diagrams.{listed}
 use Rattle.model.specs.Listings.{node_bytes}
 use Rattle.listings.specs.Labels.{short, relabelled}
 use Rattle.listings.specs.Rows.{filled}
-use Rattle.listings.proofs.Written.{written_length, node_length}
+use Rattle.listings.proofs.Written.{written_length}
+use Rattle.model.proofs.Bytes.{node_length}
 use Rattle.listings.proofs.writing.put_nodes.Goals as goal
 
 pub extend_from_slice-requires : goal.extend_from_slice-requires

@@ -1,7 +1,8 @@
 use Rattle.std.proofs.Common.{length, get_or, sym, ap, ◌∙◌, arith}
 use Rattle.model.specs.Diagrams.{listed, next}
-use Rattle.tables.proofs.Walks.{in_get_or, walk_on, walk_end}
+use Rattle.tables.proofs.Walks.{walk_on, walk_end}
 use Rattle.tables.proofs.reading.read.Goals as goal
+use Rattle.model.proofs.Lists.{in_get_or}
 
 pub loop-place-preserved : goal.loop-place-preserved
 loop-place-preserved c = λ small.

@@ -21,5 +21,5 @@ returns c =
     let root = rw c.in_ok-line.ensures.same at c.in_ok-root.ensures in
     record {
       turned = λ p heads f t. not_turned _ p heads (λ n size. count_refusal n size c.args.line (length c.args.nodes.now) (length c.args.work.now)) clear f t;
-      tells = λ p o. count_held _ _ p o _ _ _ clear _ _ root (rw c.over.ensures at c.reached_count.ensures);
+      tells = λ p o. count_held _ _ p o _ _ _ clear _ _ root (rw c.over-over.ensures at c.reached_from.ensures);
     }
