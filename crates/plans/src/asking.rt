@@ -1,6 +1,7 @@
 // The calls that alter nothing.
-ghost use Rattle.std.specs.Prelude.{◌≡◌, length};
+ghost use Rattle.std.specs.Prelude.{◌≡◌, [], ◌∷◌, length, Some};
 ghost use Rattle.plans.specs.Holding.{order_of, Reads, Counts, Compares, Uses};
+ghost use Rattle.plans.specs.Reaching.{ReachesMany};
 
 use crate::header::Header;
 use crate::line_number::LineNumber;
@@ -8,7 +9,7 @@ use crate::marking::{Marking, reached_count};
 use crate::open::OpenPlan;
 use crate::plan::Plan;
 use faults::fault::Fault;
-use model::Node;
+use model::{Branch, Node};
 
 impl Header {
     // The pins, in their order.
@@ -17,6 +18,13 @@ impl Header {
     {
         let pins = usize::from(self.pins);
         &self.order[0..pins]
+    }
+
+    // How many nodes a root reaches.
+    fn reached_from(&self, root: Branch, over: &mut Marking) -> u16
+        ensures { ReachesMany self.now.pins over.old.nodes.now (Some root ∷ []) result }
+    {
+        reached_count(over, self.pins, &[Some(root)])
     }
 
     pub(crate) fn read(&self, nodes: &[Node], line: u8, address: u32) -> Result<u16, Fault>
@@ -62,10 +70,7 @@ impl OpenPlan {
     {
         let line = self.header.check_held(line, nodes.len(), work.len())?;
         let root = self.header.root(line)?;
-        Ok(reached_count(
-            &mut Marking::over(nodes, work),
-            self.header.pins,
-            &[Some(root)],
-        ))
+        let mut over = Marking::over(nodes, work);
+        Ok(self.header.reached_from(root, &mut over))
     }
 }
