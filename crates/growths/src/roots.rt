@@ -14,6 +14,8 @@ use tables::adding::Growing;
 use tables::line::Line;
 
 // A root for the join of two roots, beside what the held lines reach. None where no slot is left.
+// Prepared and then grown, as `strap_root` and `draw_root` of drawings are: a function over both was tried. It takes the
+// growth as a closure, which repeats the growth's clauses, and so is longer than the two lines.
 pub fn join_roots<J: Joining>(
     joining: &J,
     nodes: &mut [Node],

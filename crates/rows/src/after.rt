@@ -14,6 +14,8 @@ use plans::open::OpenPlan;
 use std::array;
 
 // A new plan on which a row was run.
+// Order and tables are two parameters, here and in the other laws: two rows are compared on plans of one order, each with
+// tables of its own.
 pub fn plan_after<R: Row>(row: &R, order: &[u8], tables: &mut Tables) -> Result<OpenPlan, Fault>
     ensures loans { KeepsLoans tables.old tables.new }
     ensures holds { AfterMaking order.now (whole tables.old) result (λ plan. Holds plan.header tables.new.nodes.now (plain_after order.now (whole tables.old) (R.Row.calls row.now))) }

@@ -25,6 +25,7 @@ fn pins_of(heap: Global, text: &[u8]) -> Result<Vec<u8>, ParseError>
     ensures { Gives (λ v. v.items) result (pins_of (words text.now)) }
 {
     let mut pins = Vec::new(heap);
+    // By `while let`: an iterator over words would be a type with laws of its own, for this one loop.
     let mut rest = text;
     while let Some((word, after)) = next_word(rest) {
         let pin = pin_of(word)?;

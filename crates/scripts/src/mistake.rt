@@ -20,7 +20,7 @@ pub enum Mistake {
     NoEnd,
 }
 
-// Why a line was not read.
+// Why a line was not read: no option, but two errors, of which one ends the program.
 #[derive(Clone, Copy, PartialEq, Eq, Debug)]
 pub enum ParseError {
     Memory,

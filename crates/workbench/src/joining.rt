@@ -8,7 +8,7 @@ use model::Node;
 use plans::open::OpenPlan;
 use scripts::request::How;
 
-// Joins two lines on a third, by a joining of that name.
+// Joins two lines on a third, by a joining of that name. A joining is a type, and a script names it by a value.
 pub fn join(
     plan: &mut OpenPlan,
     how: How,
