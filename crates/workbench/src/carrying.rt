@@ -5,8 +5,8 @@ ghost use Rattle.workbench.specs.Desks.{Bench, Situation, StandsAt, Stands};
 ghost use Rattle.workbench.specs.Requests.{Acted, Carried};
 
 use crate::answer::{Answer, Misplaced};
-use crate::desk::{Desk, Stage, Tables};
-use crate::handing::tables_of;
+use crate::desk::{Desk, Lengths, Stage};
+use crate::handing::lengths_of;
 use crate::issued::step_issued;
 use crate::making::begin;
 use crate::opened::step_open;
@@ -50,19 +50,19 @@ fn act(
 {
     let stage = mem::replace(&mut desk.stage, Stage::Bare);
     let sheet = stage.sheet();
-    let lent = Tables {
+    let lent = Lengths {
         records: records.len(),
         work: work.len(),
     };
-    let tables = tables_of(desk.tables, sheet, lent);
+    let lengths = lengths_of(desk.lengths, sheet, lent);
     let count = sheet.nodes.min(nodes.len());
     let (stage, answer) = step(
         stage,
         call,
         bytes,
         &mut nodes[..count],
-        &mut records[..tables.records],
-        &mut work[..tables.work],
+        &mut records[..lengths.records],
+        &mut work[..lengths.work],
         buffer,
     );
     desk.stage = stage;
@@ -88,7 +88,7 @@ pub fn carry_out(
             order,
         } => begin(desk, order, *count, nodes),
         Request::Tables { records, work } => {
-            desk.tables = Some(Tables {
+            desk.lengths = Some(Lengths {
                 records: *records,
                 work: *work,
             });
