@@ -1,5 +1,6 @@
 use crate::bench::Bench;
 use crate::hex::print_hex;
+use rows::lent::Tables;
 use scripts::mistake::ParseError;
 use scripts::parsing::parse;
 use scripts::request::{Call, Request};
@@ -61,13 +62,16 @@ fn answer(
     request: &Request,
     bytes: &[u8],
 ) -> Answered {
+    let mut tables = Tables {
+        nodes: &mut bench.nodes,
+        records: &mut bench.records,
+        work: &mut bench.work,
+    };
     let told = carry_out(
         &mut bench.desk,
         request,
         bytes,
-        &mut bench.nodes,
-        &mut bench.records,
-        &mut bench.work,
+        &mut tables,
         &mut bench.buffer,
     );
     match (told, request) {

@@ -13,7 +13,7 @@ use Rattle.plans.specs.Plain.{empty_plan, make_told}
 use Rattle.workbench.specs.declared.answer.Answer.TheVariants as answer
 use Rattle.workbench.specs.declared.answer.Misplaced.TheVariants as why
 use Rattle.workbench.specs.declared.desk.Stage.TheVariants as stage
-use Rattle.workbench.specs.declared.desk.Tables.{Tables}
+use Rattle.workbench.specs.declared.desk.Lengths.{Lengths}
 use Rattle.workbench.specs.declared.sheet.Sheet.{Sheet}
 use Rattle.workbench.specs.Calls.{handed, answer_of}
 use Rattle.workbench.specs.Desks.{Bench, opened, Situation, Sits, StandsAt, bench_nodes}
@@ -94,11 +94,11 @@ module _ (order : List ℕ) (n : ℕ) (nodes : List Node) (enough : n ≤ length
     sits : Sits plan.header sheet (take n nodes) (empty_plan order n)
     sits = record { holds = subst (λ k. Holds plan.header (take n nodes) (empty_plan order k)) long made.holds; pins = pins; size = size }
 
-    pub plan_begun : (t : Option Tables) → t ≡ s.tables → Begun (handed (length nodes) r w b) s n order (record { stage = stage.Open plan sheet; tables = t }) nodes (Ok answer.Done)
+    pub plan_begun : (t : Option Lengths) → t ≡ s.lengths → Begun (handed (length nodes) r w b) s n order (record { stage = stage.Open plan sheet; lengths = t }) nodes (Ok answer.Done)
     plan_begun t same = record {
       stands = record {
         plan = subst (λ (x : Bench). StandsAt (stage.Open plan sheet) (take (bench_nodes x) nodes) x) (sym begins) sits;
-        tables = same;
+        lengths = same;
       };
       answers = sym (ap (λ x. if (x && leb n 4096) then Err why.FewNodes else Ok (answer_of (make_told order n) answer.Done)) lent ∙ ap (λ (x : Option Fault). Ok (answer_of x answer.Done)) told);
     }

@@ -12,12 +12,12 @@ use Rattle.workbench.specs.declared.answer.Misplaced.{Misplaced}
 use Rattle.workbench.specs.declared.desk.Desk.{Desk}
 use Rattle.workbench.specs.declared.desk.Stage.{Stage}
 use Rattle.workbench.specs.declared.desk.Stage.TheVariants as stage
-use Rattle.workbench.specs.declared.desk.Tables.{Tables}
+use Rattle.workbench.specs.declared.desk.Lengths.{Lengths}
 use Rattle.workbench.specs.declared.sheet.Sheet.{Sheet}
 use Rattle.workbench.specs.Calls.{Handed, handed, moved, Stepped}
 use Rattle.workbench.specs.Desks.{Bench, none, opened, issued, Situation, Sits, StandsAt, Stands, bench_pins, bench_nodes, stage_pins, stage_nodes}
 use Rattle.workbench.specs.Drawings.{map_told, draw_call}
-use Rattle.workbench.specs.Handing.{tables_of}
+use Rattle.workbench.specs.Handing.{lengths_of}
 use Rattle.workbench.specs.Joinings.{join_call}
 use Rattle.workbench.specs.Requests.{sizes, Acted}
 use Rattle.workbench.proofs.Steps.{after_alongside, unless_alongside}
@@ -76,8 +76,8 @@ moved_nodes h (issued p) script.issue bs = refl
 moved_nodes h (issued p) script.reopen bs = refl
 moved_nodes h (issued p) (script.list file) bs = refl
 
-module _ (d : Desk) (nodes : List Node) (s : Situation) (o : Stands d nodes s) (lent : Tables) (buffer : List ℕ) (k k' r w : ℕ) (count : k ≡ min (stage_nodes d.stage) (length nodes)) (count' : k' ≡ k)
-    (records : r ≡ (tables_of d.tables (stage_pins d.stage) (stage_nodes d.stage) lent).records) (work : w ≡ (tables_of d.tables (stage_pins d.stage) (stage_nodes d.stage) lent).work) where
+module _ (d : Desk) (nodes : List Node) (s : Situation) (o : Stands d nodes s) (lent : Lengths) (buffer : List ℕ) (k k' r w : ℕ) (count : k ≡ min (stage_nodes d.stage) (length nodes)) (count' : k' ≡ k)
+    (records : r ≡ (lengths_of d.lengths (stage_pins d.stage) (stage_nodes d.stage) lent).records) (work : w ≡ (lengths_of d.lengths (stage_pins d.stage) (stage_nodes d.stage) lent).work) where
   b : Bench
   b = s.bench
 
@@ -90,23 +90,23 @@ module _ (d : Desk) (nodes : List Node) (s : Situation) (o : Stands d nodes s) (
   l : Handed
   l = handed (length nodes) lent.records lent.work (length buffer)
 
-  same_tables : tables_of d.tables (stage_pins d.stage) (stage_nodes d.stage) lent ≡ tables_of s.tables (bench_pins s.bench) (bench_nodes s.bench) lent
-  same_tables = ap (λ t. tables_of t (stage_pins d.stage) (stage_nodes d.stage) lent) o.tables ∙ ap (λ n. tables_of s.tables n (stage_nodes d.stage) lent) f.pins ∙ ap (λ n. tables_of s.tables (bench_pins s.bench) n lent) f.size
+  same_lengths : lengths_of d.lengths (stage_pins d.stage) (stage_nodes d.stage) lent ≡ lengths_of s.lengths (bench_pins s.bench) (bench_nodes s.bench) lent
+  same_lengths = ap (λ t. lengths_of t (stage_pins d.stage) (stage_nodes d.stage) lent) o.lengths ∙ ap (λ n. lengths_of s.lengths n (stage_nodes d.stage) lent) f.pins ∙ ap (λ n. lengths_of s.lengths (bench_pins s.bench) n lent) f.size
 
-  given : handed k' r w (length buffer) ≡ sizes (handed (length nodes) lent.records lent.work (length buffer)) s.tables s.bench
-  given = ap (λ x. handed x r w (length buffer)) (count' ∙ whole) ∙ ap (λ x. handed (bench_nodes s.bench) x w (length buffer)) (records ∙ ap (λ (t : Tables). t.records) same_tables)
-      ∙ ap (λ x. handed (bench_nodes s.bench) (tables_of s.tables (bench_pins s.bench) (bench_nodes s.bench) lent).records x (length buffer)) (work ∙ ap (λ (t : Tables). t.work) same_tables)
+  given : handed k' r w (length buffer) ≡ sizes (handed (length nodes) lent.records lent.work (length buffer)) s.lengths s.bench
+  given = ap (λ x. handed x r w (length buffer)) (count' ∙ whole) ∙ ap (λ x. handed (bench_nodes s.bench) x w (length buffer)) (records ∙ ap (λ (t : Lengths). t.records) same_lengths)
+      ∙ ap (λ x. handed (bench_nodes s.bench) (lengths_of s.lengths (bench_pins s.bench) (bench_nodes s.bench) lent).records x (length buffer)) (work ∙ ap (λ (t : Lengths). t.work) same_lengths)
 
   pub acted : (a : Act) (bs : List ℕ) (st : Stage) (front : List Node) (res : Result Answer Misplaced) (buffer' : List ℕ) → length front ≡ k'
       → ((x : Bench) → StandsAt d.stage (take k nodes) x → Stepped (handed k' r w (length buffer)) x a bs buffer st front res buffer')
-      → Acted (handed (length nodes) lent.records lent.work (length buffer)) s a bs buffer (record { stage = st; tables = d.tables }) (front ++ drop k nodes) res buffer'
+      → Acted (handed (length nodes) lent.records lent.work (length buffer)) s a bs buffer (record { stage = st; lengths = d.lengths }) (front ++ drop k nodes) res buffer'
   acted a bs st front res buffer' long steps =
       let x = subst (λ (h : Handed). Stepped h s.bench a bs buffer st front res buffer') given (steps s.bench (subst (λ j. StandsAt d.stage (take j nodes) s.bench) (sym whole) o.plan)) in
-      let h = sizes (handed (length nodes) lent.records lent.work (length buffer)) s.tables s.bench in
+      let h = sizes (handed (length nodes) lent.records lent.work (length buffer)) s.lengths s.bench in
       let stays = moved_nodes h s.bench a bs in
       let all : take (bench_nodes (moved h s.bench a bs)) (front ++ drop k nodes) ≡ front = take_at front (drop k nodes) _ (long ∙ count' ∙ whole ∙ sym stays) in
       record {
-        stands = record { plan = subst (λ (ns : List Node). StandsAt st ns (moved h s.bench a bs)) (sym all) x.stands; tables = o.tables };
+        stands = record { plan = subst (λ (ns : List Node). StandsAt st ns (moved h s.bench a bs)) (sym all) x.stands; lengths = o.lengths };
         answers = x.answers;
         wrote = x.wrote;
       }

@@ -7,6 +7,7 @@ use Rattle.model.specs.Selections.{Alike}
 use Rattle.plans.specs.Plain as plain
 use Rattle.plans.specs.Plain.{Plain, Call, pins, line, used_of, empty_plan, make_told, told, after, read_told, same_told, count_told, code_of, count_line, work_size}
 use Rattle.plans.specs.Listing.{listing_of, list_told}
+use Rattle.rows.specs.declared.lent.Tables.{Tables}
 use Rattle.rows.specs.Laws.{written}
 use Rattle.scripts.specs.Requests as script
 use Rattle.scripts.specs.Requests.{Act, Asked}
@@ -28,6 +29,10 @@ pub record Handed : Type 0 where
 
 abbrev pub handed : (nodes records work buffer : ℕ) → Handed
 handed k r w b = record { nodes = k; records = r; work = w; buffer = b }
+
+-- the lengths of all that is lent, the tables and a buffer
+abbrev pub all_lent : Tables → (buffer : List ℕ) → Handed
+all_lent t buffer = handed (length t.nodes.now) (length t.records.now) (length t.work.now) (length buffer)
 
 -- the refusal, or else an answer
 abbrev pub answer_of : Option Fault → Answer → Answer

@@ -8,7 +8,7 @@ use Rattle.workbench.specs.declared.desk.Desk.{Desk}
 use Rattle.workbench.specs.declared.sheet.Sheet.{Sheet}
 use Rattle.workbench.specs.declared.desk.Stage.{Stage}
 use Rattle.workbench.specs.declared.desk.Stage.TheVariants as stage
-use Rattle.workbench.specs.declared.desk.Tables.{Tables}
+use Rattle.workbench.specs.declared.desk.Lengths.{Lengths}
 
 -- no plan, an open one or an issued one
 pub data Bench : Type 0 where
@@ -19,7 +19,7 @@ pub data Bench : Type 0 where
 -- and the lengths of tables, if they were set
 pub record Situation : Type 0 where
   pub bench : Bench
-  pub tables : Option Tables
+  pub lengths : Option Lengths
 
 -- a plan and its nodes hold a plain plan, of which the desk knows how many pins and nodes it has
 pub record Sits (h : Header) (sheet : Sheet) (nodes : List Node) (p : Plain) : Type 0 where
@@ -57,8 +57,8 @@ stage_nodes (stage.Issued plan sheet) = sheet.nodes
 -- a desk holds this, its plan in the first nodes of the table
 pub record Stands (d : Desk) (nodes : List Node) (s : Situation) : Type 0 where
   pub plan : StandsAt d.stage (take (bench_nodes s.bench) nodes) s.bench
-  pub tables : d.tables ≡ s.tables
+  pub lengths : d.lengths ≡ s.lengths
 
 -- a desk with no plan, on which nothing was set
 abbrev pub start : Situation
-start = record { bench = none; tables = None }
+start = record { bench = none; lengths = None }

@@ -10,7 +10,7 @@ use Rattle.workbench.specs.declared.answer.Answer.TheVariants as answer
 use Rattle.workbench.specs.declared.desk.Desk.{Desk}
 use Rattle.workbench.specs.declared.desk.Stage.{Stage}
 use Rattle.workbench.specs.declared.desk.Stage.TheVariants as stage
-use Rattle.workbench.specs.declared.desk.Tables.{Tables}
+use Rattle.workbench.specs.declared.desk.Lengths.{Lengths}
 use Rattle.workbench.specs.Calls.{Handed}
 use Rattle.workbench.specs.Desks.{opened, Situation, Stands}
 use Rattle.workbench.specs.Requests.{RequestAnswered}
@@ -21,13 +21,13 @@ lines_of stage.Bare = []
 lines_of (stage.Open plan sheet) = plan.header.lines
 lines_of (stage.Issued plan sheet) = plan.header.lines
 
-abbrev pub with_open : Plain → Option Tables → Situation
-with_open p t = record { bench = opened p; tables = t }
+abbrev pub with_open : Plain → Option Lengths → Situation
+with_open p t = record { bench = opened p; lengths = t }
 
 pub record PricesAsPromised : Type 0 where
   -- the number told by `used` is that of the reachable nodes, and of the different parts
-  pub used : (d : Desk) (nodes : List Node) (p : Plain) (t : Option Tables) → Stands d nodes (with_open p t) → (l : Handed) (bs : List ℕ) (u : ℕ)
+  pub used : (d : Desk) (nodes : List Node) (p : Plain) (t : Option Lengths) → Stands d nodes (with_open p t) → (l : Handed) (bs : List ℕ) (u : ℕ)
       → RequestAnswered l (with_open p t) (script.act script.used) bs (Ok (answer.Used u)) → UsedIsTheParts p (take p.size nodes) (lines_of d.stage) u
   -- the number told by `count` is that of the line's own nodes, and no diagram for the line has fewer
-  pub count : (d : Desk) (nodes : List Node) (p : Plain) (t : Option Tables) → Stands d nodes (with_open p t) → (l : Handed) (bs : List ℕ) (k c : ℕ) (f : Selection) → line p k ≡ Some f
+  pub count : (d : Desk) (nodes : List Node) (p : Plain) (t : Option Lengths) → Stands d nodes (with_open p t) → (l : Handed) (bs : List ℕ) (k c : ℕ) (f : Selection) → line p k ≡ Some f
       → RequestAnswered l (with_open p t) (script.act (script.count k)) bs (Ok (answer.Nodes k c)) → CountIsLeast p (take p.size nodes) (slice_index_or (lines_of d.stage) k None) f (Some c)

@@ -10,15 +10,15 @@ use Rattle.workbench.specs.declared.answer.Answer.TheVariants as answer
 use Rattle.workbench.specs.declared.answer.Misplaced.{Misplaced}
 use Rattle.workbench.specs.declared.answer.Misplaced.TheVariants as why
 use Rattle.workbench.specs.declared.desk.Desk.{Desk}
-use Rattle.workbench.specs.declared.desk.Tables.{Tables}
+use Rattle.workbench.specs.declared.desk.Lengths.{Lengths}
 use Rattle.workbench.specs.Calls.{Handed, handed, answer_of, moved, Answered, shown}
 use Rattle.workbench.specs.Desks.{Bench, opened, Situation, Stands, bench_pins, bench_nodes}
-use Rattle.workbench.specs.Handing.{tables_of}
+use Rattle.workbench.specs.Handing.{lengths_of}
 
 -- what a call on a plan is handed of all that is lent
-abbrev pub sizes : (lent : Handed) → Option Tables → Bench → Handed
+abbrev pub sizes : (lent : Handed) → Option Lengths → Bench → Handed
 sizes l set b =
-    let t = tables_of set (bench_pins b) (bench_nodes b) (record { records = l.records; work = l.work }) in
+    let t = lengths_of set (bench_pins b) (bench_nodes b) (record { records = l.records; work = l.work }) in
     handed (bench_nodes b) t.records t.work l.buffer
 
 -- fewer nodes are lent than the plan is to have, though a plan may have so many
@@ -31,31 +31,31 @@ begun l b n order = if lacks l n then b else cond (is_none (make_told order n)) 
 
 -- what is left
 abbrev pub next : Handed → Situation → Asked → List ℕ → Situation
-next l s (script.plan n order) bs = record { bench = begun l s.bench n order; tables = s.tables }
-next l s (script.tables r w) bs = record { bench = s.bench; tables = Some (record { records = r; work = w }) }
-next l s (script.act a) bs = record { bench = moved (sizes l s.tables s.bench) s.bench a bs; tables = s.tables }
+next l s (script.plan n order) bs = record { bench = begun l s.bench n order; lengths = s.lengths }
+next l s (script.tables r w) bs = record { bench = s.bench; lengths = Some (record { records = r; work = w }) }
+next l s (script.act a) bs = record { bench = moved (sizes l s.lengths s.bench) s.bench a bs; lengths = s.lengths }
 
 -- what is answered
 abbrev pub RequestAnswered : Handed → Situation → Asked → List ℕ → Result Answer Misplaced → Type 0
 RequestAnswered l s (script.plan n order) bs r = r ≡ (if lacks l n then Err why.FewNodes else Ok (answer_of (make_told order n) answer.Done))
 RequestAnswered l s (script.tables records work) bs r = r ≡ Ok answer.Done
-RequestAnswered l s (script.act a) bs r = Answered (sizes l s.tables s.bench) s.bench a bs r
+RequestAnswered l s (script.act a) bs r = Answered (sizes l s.lengths s.bench) s.bench a bs r
 
 -- what is left in the buffer
 abbrev pub request_shown : Handed → Situation → Asked → List ℕ → List ℕ
-request_shown l s (script.act a) buffer = shown (sizes l s.tables s.bench) s.bench a buffer
+request_shown l s (script.act a) buffer = shown (sizes l s.lengths s.bench) s.bench a buffer
 request_shown l s _ buffer = buffer
 
 -- a plan that was begun, or not
 pub record Begun (l : Handed) (s : Situation) (n : ℕ) (order : List ℕ) (desk : Desk) (nodes : List Node) (r : Result Answer Misplaced) : Type 0 where
-  pub stands : Stands desk nodes (record { bench = begun l s.bench n order; tables = s.tables })
+  pub stands : Stands desk nodes (record { bench = begun l s.bench n order; lengths = s.lengths })
   pub answers : r ≡ (if lacks l n then Err why.FewNodes else Ok (answer_of (make_told order n) answer.Done))
 
 -- a call that was carried out
 pub record Acted (l : Handed) (s : Situation) (a : Act) (bs buffer : List ℕ) (desk : Desk) (nodes : List Node) (r : Result Answer Misplaced) (buffer' : List ℕ) : Type 0 where
-  pub stands : Stands desk nodes (record { bench = moved (sizes l s.tables s.bench) s.bench a bs; tables = s.tables })
-  pub answers : Answered (sizes l s.tables s.bench) s.bench a bs r
-  pub wrote : buffer' ≡ shown (sizes l s.tables s.bench) s.bench a buffer
+  pub stands : Stands desk nodes (record { bench = moved (sizes l s.lengths s.bench) s.bench a bs; lengths = s.lengths })
+  pub answers : Answered (sizes l s.lengths s.bench) s.bench a bs r
+  pub wrote : buffer' ≡ shown (sizes l s.lengths s.bench) s.bench a buffer
 
 -- a request that was carried out on what stood
 pub record Carried (l : Handed) (s : Situation) (a : Asked) (bs buffer : List ℕ) (desk : Desk) (nodes : List Node) (r : Result Answer Misplaced) (buffer' : List ℕ) : Type 0 where

@@ -8,7 +8,7 @@ use plans::open::OpenPlan;
 
 // How long the tree table and the work are that calls are handed.
 #[derive(Clone, Copy)]
-pub struct Tables {
+pub struct Lengths {
     pub records: usize,
     pub work: usize,
 }
@@ -25,7 +25,7 @@ pub enum Stage {
 #[derive(Drop)]
 pub struct Desk {
     pub(crate) stage: Stage,
-    pub(crate) tables: Option<Tables>,
+    pub(crate) lengths: Option<Lengths>,
 }
 
 impl Stage {
@@ -45,11 +45,11 @@ impl Desk {
     // A desk with no plan.
     pub fn bare() -> Desk
         ensures stage { result.stage ≡ Bare }
-        ensures tables { result.tables ≡ None }
+        ensures lengths { result.lengths ≡ None }
     {
         Desk {
             stage: Stage::Bare,
-            tables: None,
+            lengths: None,
         }
     }
 }

@@ -1,19 +1,19 @@
 ghost use Rattle.std.specs.Prelude.{◌≡◌};
-ghost use Rattle.workbench.specs.Handing.{tables_of};
+ghost use Rattle.workbench.specs.Handing.{lengths_of};
 
-use crate::desk::Tables;
+use crate::desk::Lengths;
 use crate::sheet::Sheet;
 
 // The lengths of the tree table and of the work that a call is handed: those that were set, or else 20,480 records and
 // what the plan asks for, and of each at most what is lent.
-pub(crate) fn tables_of(set: Option<Tables>, sheet: Sheet, lent: Tables) -> Tables
-    ensures { result ≡ tables_of set sheet.pins sheet.nodes lent }
+pub(crate) fn lengths_of(set: Option<Lengths>, sheet: Sheet, lent: Lengths) -> Lengths
+    ensures { result ≡ lengths_of set sheet.pins sheet.nodes lent }
 {
-    let wanted = set.unwrap_or(Tables {
+    let wanted = set.unwrap_or(Lengths {
         records: 20_480,
         work: 4 * (sheet.pins + 1) * (sheet.nodes + 2),
     });
-    Tables {
+    Lengths {
         records: wanted.records.min(lent.records),
         work: wanted.work.min(lent.work),
     }

@@ -1,7 +1,7 @@
-ghost use Rattle.std.specs.Prelude.{length};
 ghost use Rattle.plans.specs.Plain.{Plain};
+ghost use Rattle.rows.specs.Rows.{KeepsLoans};
 ghost use Rattle.scripts.specs.Requests.{act_of};
-ghost use Rattle.workbench.specs.Calls.{handed, Stepped};
+ghost use Rattle.workbench.specs.Calls.{all_lent, Stepped};
 ghost use Rattle.workbench.specs.Desks.{opened, Sits};
 
 use crate::answer::{Answer, Misplaced};
@@ -10,10 +10,9 @@ use crate::drawing::draw_map;
 use crate::joining::join;
 use crate::sheet::Sheet;
 use crate::telling::answered;
-use model::Node;
 use plans::open::OpenPlan;
+use rows::lent::Tables;
 use scripts::request::Call;
-use trees::tree::Record;
 
 // A call on an open plan.
 pub(crate) fn step_open(
@@ -21,17 +20,18 @@ pub(crate) fn step_open(
     sheet: Sheet,
     call: &Call,
     bytes: &[u8],
-    nodes: &mut [Node],
-    records: &mut [Record],
-    work: &mut [u32],
+    tables: &mut Tables,
     buffer: &[u8],
 ) -> (Stage, Result<Answer, Misplaced>)
-    ensures { (p : Plain) → Sits plan.header sheet nodes.old p → Stepped (handed (length nodes.old) (length records.old) (length work.old) (length buffer.now)) (opened p) (act_of call.now) bytes.now buffer.now result.0 nodes.new result.1 buffer.now }
+    ensures loans { KeepsLoans tables.old tables.new }
+    ensures stepped { (p : Plain) → Sits plan.header sheet tables.old.nodes.now p → Stepped (all_lent tables.old buffer.now) (opened p) (act_of call.now) bytes.now buffer.now result.0 tables.new.nodes.now result.1 buffer.now }
 {
     let mut plan = plan;
+    let nodes = &mut *tables.nodes;
+    let work = &mut *tables.work;
     let answer = match call {
         Call::Draw { line, map, .. } => {
-            let told = draw_map(&mut plan, *map, bytes, *line, nodes, records, work);
+            let told = draw_map(&mut plan, *map, bytes, *line, tables);
             Ok(answered(told, |()| Answer::Done))
         }
         Call::Join {

@@ -1,6 +1,7 @@
-ghost use Rattle.std.specs.Prelude.{◌≡◌, ℕ, List, length};
+ghost use Rattle.std.specs.Prelude.{◌≡◌, ℕ, List};
+ghost use Rattle.rows.specs.Rows.{KeepsLoans};
 ghost use Rattle.scripts.specs.Requests.{asked};
-ghost use Rattle.workbench.specs.Calls.{handed};
+ghost use Rattle.workbench.specs.Calls.{all_lent};
 ghost use Rattle.workbench.specs.Desks.{Situation, Stands, start};
 ghost use Rattle.workbench.specs.Requests.{RequestAnswered, request_shown};
 ghost use Rattle.workbench.specs.Rows.{runs};
@@ -8,9 +9,8 @@ ghost use Rattle.workbench.specs.Rows.{runs};
 use crate::answer::{Answer, Misplaced};
 use crate::carrying::carry_out;
 use crate::desk::Desk;
-use model::Node;
+use rows::lent::Tables;
 use scripts::request::Request;
-use trees::tree::Record;
 
 // A request, with the bytes of the file that it names.
 #[derive(Drop)]
@@ -20,26 +20,12 @@ pub struct Given {
 }
 
 // Carries out a row of requests, one after the other, refused and misplaced ones in their places.
-pub fn run(
-    desk: &mut Desk,
-    row: &[Given],
-    nodes: &mut [Node],
-    records: &mut [Record],
-    work: &mut [u32],
-    buffer: &mut [u8],
-)
-    ensures { (s : Situation) → Stands desk.old nodes.old s → Stands desk.new nodes.new (runs (handed (length nodes.old) (length records.old) (length work.old) (length buffer.old)) s row.now) }
+pub fn run(desk: &mut Desk, row: &[Given], tables: &mut Tables, buffer: &mut [u8])
+    ensures loans { KeepsLoans tables.old tables.new }
+    ensures stands { (s : Situation) → Stands desk.old tables.old.nodes.now s → Stands desk.new tables.new.nodes.now (runs (all_lent tables.old buffer.old) s row.now) }
 {
     for given in row {
-        let _ = carry_out(
-            desk,
-            &given.request,
-            &given.bytes,
-            nodes,
-            records,
-            work,
-            buffer,
-        );
+        let _ = carry_out(desk, &given.request, &given.bytes, tables, buffer);
     }
 }
 
@@ -48,23 +34,14 @@ pub fn run(
 pub fn answer_after(
     row: &[Given],
     given: &Given,
-    nodes: &mut [Node],
-    records: &mut [Record],
-    work: &mut [u32],
+    tables: &mut Tables,
     buffer: &mut [u8],
 ) -> Result<Answer, Misplaced>
-    ensures answers { let lent = handed (length nodes.old) (length records.old) (length work.old) (length buffer.old) in RequestAnswered lent (runs lent start row.now) (asked given.now.request) given.now.bytes.items result }
-    ensures wrote { let lent = handed (length nodes.old) (length records.old) (length work.old) (length buffer.old) in (before : List ℕ) × (buffer.new ≡ request_shown lent (runs lent start row.now) (asked given.now.request) before) }
+    ensures loans { KeepsLoans tables.old tables.new }
+    ensures answers { let lent = all_lent tables.old buffer.old in RequestAnswered lent (runs lent start row.now) (asked given.now.request) given.now.bytes.items result }
+    ensures wrote { let lent = all_lent tables.old buffer.old in (before : List ℕ) × (buffer.new ≡ request_shown lent (runs lent start row.now) (asked given.now.request) before) }
 {
     let mut desk = Desk::bare();
-    run(&mut desk, row, nodes, records, work, buffer);
-    carry_out(
-        &mut desk,
-        &given.request,
-        &given.bytes,
-        nodes,
-        records,
-        work,
-        buffer,
-    )
+    run(&mut desk, row, tables, buffer);
+    carry_out(&mut desk, &given.request, &given.bytes, tables, buffer)
 }

@@ -2,6 +2,7 @@ use crate::carrying::carry_out;
 use crate::desk::Desk;
 use crate::running::{Given, answer_after};
 use model::Node;
+use rows::lent::Tables;
 use scripts::parsing::parse;
 use scripts::request::Request;
 use std::test::Fail;
@@ -20,9 +21,11 @@ fn request_of(rt: &HostRuntime, line: &str) -> Result<Request, &'static str> {
 #[test]
 fn answers_lines(rt: HostRuntime) -> Result<(), Fail> {
     let mut desk = Desk::bare();
-    let mut nodes = [Node::blank(); 16];
-    let mut records = [Record::blank(); 16];
-    let mut work = [0; 216];
+    let mut tables = Tables {
+        nodes: &mut [Node::blank(); 16],
+        records: &mut [Record::blank(); 16],
+        work: &mut [0; 216],
+    };
     let mut buffer = [0; 127];
     for (line, answer) in [
         ("used", "there is no plan"),
@@ -56,15 +59,7 @@ fn answers_lines(rt: HostRuntime) -> Result<(), Fail> {
         ("used", "USED 3"),
     ] {
         let request = request_of(&rt, line)?;
-        let told = carry_out(
-            &mut desk,
-            &request,
-            &TWO,
-            &mut nodes,
-            &mut records,
-            &mut work,
-            &mut buffer,
-        );
+        let told = carry_out(&mut desk, &request, &TWO, &mut tables, &mut buffer);
         let text = match told {
             Ok(answer) => format!(in rt.alloc(); "{answer}")?,
             Err(why) => format!(in rt.alloc(); "{why}")?,
@@ -90,9 +85,11 @@ fn answers_after_a_row(rt: HostRuntime) -> Result<(), Fail> {
     let told = answer_after(
         &row,
         &last,
-        &mut [Node::blank(); 4],
-        &mut [Record::blank(); 4],
-        &mut [0; 72],
+        &mut Tables {
+            nodes: &mut [Node::blank(); 4],
+            records: &mut [Record::blank(); 4],
+            work: &mut [0; 72],
+        },
         &mut [],
     );
     let text = match told {
