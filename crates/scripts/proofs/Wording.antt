@@ -17,7 +17,7 @@ or_none : (a b : Bool) → a ≡ false → b ≡ false → (a || b) ≡ false
 or_none true b e f = e
 or_none false b e f = f
 
-or_some : (a b : Bool) → b ≡ true → (a || b) ≡ true
+pub or_some : (a b : Bool) → b ≡ true → (a || b) ≡ true
 or_some true b e = refl
 or_some false b e = e
 

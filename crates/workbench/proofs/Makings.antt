@@ -10,6 +10,7 @@ use Rattle.plans.specs.declared.plan.Plan.{Plan}
 use Rattle.plans.specs.Holding.{Holds, Made}
 use Rattle.plans.specs.Orders.{misplaced, misplaced_below}
 use Rattle.plans.specs.Plain.{empty_plan, make_told}
+use Rattle.scripts.proofs.Wording.{or_some}
 use Rattle.workbench.specs.declared.answer.Answer.TheVariants as answer
 use Rattle.workbench.specs.declared.answer.Misplaced.TheVariants as why
 use Rattle.workbench.specs.declared.desk.Stage.TheVariants as stage
@@ -42,10 +43,6 @@ retold_pin f n e = ap (λ (g : Ground). retold g f n) e
 module _ (order : List ℕ) (n : ℕ) (many : 4096 < n) where
   too_many : (ltb n 1 || ltb 4096 n) ≡ true
   too_many = or_some (ltb n 1) (ltb 4096 n) (lt-ltb 4096 n many)
-    where
-      or_some : (a b : Bool) → b ≡ true → (a || b) ≡ true
-      or_some true b e = refl
-      or_some false b e = e
 
   table_told : refuse_if (ltb n 1 || ltb 4096 n) (at ground.NodeTable n) None ≡ Some (at ground.NodeTable n)
   table_told = ap (λ b. refuse_if b (at ground.NodeTable n) None) too_many
