@@ -14,8 +14,8 @@ use tables::adding::Growing;
 use tables::line::Line;
 
 // A root for the join of two roots, beside what the held lines reach. None where no slot is left.
-// Prepared and then grown, as `strap_root` and `draw_root` of drawings are: a function over both was tried. It takes the
-// growth as a closure, which repeats the growth's clauses, and so is longer than the two lines.
+// Prepared and then grown, as in `strap_root`, and in `draw_root` of drawings. Tried: a function that takes the growth as
+// a closure. It saves a line in each, and asks for a `requires` and a clause that names both states of the table.
 pub fn join_roots<J: Joining>(
     joining: &J,
     nodes: &mut [Node],
