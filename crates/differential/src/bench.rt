@@ -1,0 +1,256 @@
+// A plan beside the plain one, with its tables.
+use crate::call::{Call, Lent, Name, Told};
+use crate::chance::Chance;
+use crate::choosing::{choose_call, choose_lent, choose_lent_to, choose_reading, choose_room};
+use crate::layout::layout;
+use crate::noise::{noise_nodes, noise_record};
+use crate::plain::Plain;
+use crate::running::run;
+use crate::tally::{Seen, Tally};
+use crate::truth::addresses;
+use faults::fault::{Fault, Ground};
+use model::Node;
+use plans::open::OpenPlan;
+use std::alloc::{AllocError, Global};
+use std::process::Abort;
+use std::test::Fail;
+use trees::tree::Record;
+
+// What stands in a buffer before a listing.
+const BEFORE: u8 = 0xA5;
+
+// The tables are longer than the plan asks for.
+#[derive(Drop)]
+pub struct Bench<'a> {
+    plan: OpenPlan,
+    plain: Plain<'a>,
+    chance: Chance,
+    nodes: Vec<Node>,
+    records: Vec<Record>,
+    work: Vec<u32>,
+}
+
+// So many of the first elements, or all.
+fn front<T>(all: &[T], most: usize) -> &[T] {
+    let len = all.len();
+    let (front, _) = all.split_at(most.min(len));
+    front
+}
+
+fn front_mut<T>(all: &mut [T], most: usize) -> &mut [T] {
+    let len = all.len();
+    let (front, _) = all.split_at_mut(most.min(len));
+    front
+}
+
+impl<'a> Bench<'a> {
+    // A new plan over a table of other people's nodes.
+    pub fn new(heap: Global, seed: u64, order: &'a [u8], size: usize) -> Result<Bench<'a>, Fail> {
+        let mut chance = Chance::new(seed);
+        let plain = Plain::new(heap, order, size)?;
+        let nodes = noise_nodes(heap, &mut chance, size.saturating_add(1))?;
+        let plan = OpenPlan::new(order, front(&nodes, size))?;
+        let work = vec![in heap; 0; plain.work().saturating_add(1)]?;
+        let records = vec![in heap; Record::blank(); addresses(order.len()).saturating_add(40)]?;
+        Ok(Bench {
+            plan,
+            plain,
+            chance,
+            nodes,
+            records,
+            work,
+        })
+    }
+
+    // Anything may stand in records and work before a call.
+    fn scribble(&mut self) {
+        let record = noise_record(&mut self.chance);
+        let number = self.chance.below(u32::MAX);
+        let number = self.chance.pick(&[0, 1, number, u32::MAX], 0);
+        if self.chance.one_in(4) {
+            self.records.fill(record);
+            self.work.fill(number);
+        }
+    }
+
+    fn run(
+        &mut self,
+        heap: Global,
+        call: &Call,
+        lent: Lent,
+    ) -> Result<Result<Told, Fault>, AllocError> {
+        let nodes = front_mut(&mut self.nodes, lent.nodes);
+        let records = front_mut(&mut self.records, lent.records);
+        let work = front_mut(&mut self.work, lent.work);
+        run(heap, &mut self.plan, call, nodes, records, work)
+    }
+
+    // A line at one address.
+    fn check_read(
+        &self,
+        rt: &(impl Abort + AllocGlobal),
+        line: u8,
+        address: usize,
+    ) -> Result<(), Fail> {
+        let nodes = front(&self.nodes, self.plain.size);
+        let expected = match self.plain.line(line) {
+            Some(held) => Ok(held.truth.at(address)),
+            None => Err(Ground::LineEmpty.at(usize::from(line))),
+        };
+        let at = u32::try_from(address).unwrap_or(u32::MAX);
+        assert_eq!(rt;
+            self.plan.read(nodes, line, at),
+            expected,
+            "line {line} at {address}"
+        );
+        Ok(())
+    }
+
+    fn check_count(&mut self, rt: &(impl Abort + AllocGlobal), line: u8) -> Result<(), Fail> {
+        let Some(expected) = self.plain.line(line).map(|held| held.count) else {
+            return Ok(());
+        };
+        let nodes = front_mut(&mut self.nodes, self.plain.size);
+        let count = self.plan.count(nodes, &mut self.work, line)?;
+        assert_eq!(rt; usize::from(count), expected, "count of line {line}");
+        Ok(())
+    }
+
+    fn check_address(&self, rt: &(impl Abort + AllocGlobal), address: usize) -> Result<(), Fail> {
+        for line in 0..32 {
+            self.check_read(rt, line, address)?;
+        }
+        Ok(())
+    }
+
+    // The used number, and every line: at all addresses if they are few, else at some.
+    fn check_some(&mut self, rt: &(impl Abort + AllocGlobal)) -> Result<(), Fail> {
+        assert_eq!(rt; usize::from(self.plan.used()), self.plain.used);
+        let top = addresses(self.plain.pins());
+        if top <= 16 {
+            for address in 0..top {
+                self.check_address(rt, address)?;
+            }
+        } else {
+            for _ in 0..6 {
+                let address = self.chance.place_below(top);
+                self.check_address(rt, address)?;
+            }
+        }
+        Ok(())
+    }
+
+    // Every held line at every address, and against every other.
+    pub fn check_all(&mut self, rt: &(impl Abort + AllocGlobal)) -> Result<(), Fail> {
+        self.check_some(rt)?;
+        for line in 0..32 {
+            self.check_line(rt, line)?;
+        }
+        Ok(())
+    }
+
+    fn check_line(&mut self, rt: &(impl Abort + AllocGlobal), line: u8) -> Result<(), Fail> {
+        self.check_count(rt, line)?;
+        for address in 0..addresses(self.plain.pins()) {
+            self.check_read(rt, line, address)?;
+        }
+        for other in 0..32 {
+            self.check_same(rt, line, other)?;
+        }
+        Ok(())
+    }
+
+    fn check_same(&self, rt: &(impl Abort + AllocGlobal), line: u8, other: u8) -> Result<(), Fail> {
+        if let (Some(a), Some(b)) = (self.plain.line(line), self.plain.line(other)) {
+            let same = a.truth.codes.as_slice() == b.truth.codes.as_slice();
+            assert_eq!(rt;
+                self.plan.same(line, other)?,
+                same,
+                "lines {line} and {other}"
+            );
+        }
+        Ok(())
+    }
+
+    // One more call, refused or not.
+    pub fn step(&mut self, rt: &(impl Abort + AllocGlobal), tally: &mut Tally) -> Result<(), Fail> {
+        let heap = rt.alloc();
+        self.chance.settle();
+        let call = choose_call(heap, &mut self.chance, &self.plain)?;
+        let lent = choose_lent_to(heap, &mut self.chance, &self.plain, &call)?;
+        let forecast = self.plain.forecast(heap, &call, lent)?;
+        self.scribble();
+        let told = self.run(heap, &call, lent)?;
+        assert_eq!(rt; told, forecast.answer(), "{call:?} with {lent:?}");
+        tally.note_call(call.name(), &forecast.faults)?;
+        let change = forecast.into_change();
+        let written = change.held_line();
+        self.plain.change(heap, change)?;
+        if let Some(line) = written {
+            self.check_count(rt, line)?;
+        }
+        self.check_some(rt)
+    }
+
+    // The plan issued, read, listed and opened again.
+    pub fn list(
+        self,
+        rt: &(impl Abort + AllocGlobal),
+        tally: &mut Tally,
+    ) -> Result<Bench<'a>, Fail> {
+        let heap = rt.alloc();
+        let Bench {
+            plan,
+            plain,
+            mut chance,
+            nodes,
+            records,
+            mut work,
+        } = self;
+        chance.settle();
+        let issued = plan.issue();
+        let (line, address) = choose_reading(&mut chance, &plain);
+        let lent = choose_lent(&mut chance, &plain, 0);
+        let reading = plain.read(heap, line, address, lent)?;
+        let told = issued
+            .read(front(&nodes, lent.nodes), line, address)
+            .map(Told::Code);
+        assert_eq!(rt;
+            told,
+            reading.answer(),
+            "issued, line {line} at {address} with {lent:?}"
+        );
+        tally.note_call(Name::ReadIssued, &reading.faults)?;
+        if plain.shares() {
+            tally.note(Seen::Shared)?;
+        }
+        let mut expected = layout(heap, &plain)?;
+        let length = expected.len();
+        let room = choose_room(&mut chance, length);
+        let faults = plain.list_faults(heap, lent, length, room)?;
+        let mut buffer = vec![in heap; BEFORE; room]?;
+        let told = issued.list(
+            front(&nodes, lent.nodes),
+            front_mut(&mut work, lent.work),
+            &mut buffer,
+        );
+        match faults.first() {
+            Some(fault) => {
+                assert_eq!(rt; told, Err(*fault), "list with {lent:?} and room {room}");
+                expected.clear();
+            },
+            None => assert_eq!(rt; told, Ok(length)),
+        }
+        expected.resize(room, BEFORE)?;
+        assert_eq!(rt; buffer.as_slice(), expected.as_slice());
+        tally.note_call(Name::List, &faults)?;
+        Ok(Bench {
+            plan: issued.reopen(),
+            plain,
+            chance,
+            nodes,
+            records,
+            work,
+        })
+    }
+}

@@ -1,0 +1,40 @@
+#![tactic(auto)]
+// A differential test of plans: long rows of chosen calls, each held to truth tables.
+#[cfg(test)]
+mod bench;
+#[cfg(test)]
+mod call;
+#[cfg(test)]
+mod chance;
+#[cfg(test)]
+mod choosing;
+#[cfg(test)]
+mod drawing;
+#[cfg(test)]
+mod forecast;
+#[cfg(test)]
+mod layout;
+#[cfg(test)]
+mod lines;
+#[cfg(test)]
+mod makings;
+#[cfg(test)]
+mod noise;
+#[cfg(test)]
+mod orders;
+#[cfg(test)]
+mod parts;
+#[cfg(test)]
+mod plain;
+#[cfg(test)]
+mod rows;
+#[cfg(test)]
+mod running;
+#[cfg(test)]
+mod sketching;
+#[cfg(test)]
+mod tally;
+#[cfg(test)]
+mod truth;
+#[cfg(test)]
+mod wanted;
