@@ -1,8 +1,9 @@
 // A plan beside the plain one, with its tables.
-use crate::call::{Call, Lent, Name, Told};
+use crate::call::{Call, How, Lent, Told};
 use crate::chance::Chance;
-use crate::choosing::{choose_call, choose_lent, choose_lent_to, choose_reading, choose_room};
-use crate::layout::layout;
+use crate::choosing::{choose_call, choose_lent_to};
+use crate::issued::{check_issued_read, check_listing};
+use crate::lending::{front, front_mut};
 use crate::noise::{noise_nodes, noise_record};
 use crate::plain::Plain;
 use crate::running::run;
@@ -16,31 +17,17 @@ use std::process::Abort;
 use std::test::Fail;
 use trees::tree::Record;
 
-// What stands in a buffer before a listing.
-const BEFORE: u8 = 0xA5;
-
 // The tables are longer than the plan asks for.
 #[derive(Drop)]
 pub struct Bench<'a> {
     plan: OpenPlan,
     plain: Plain<'a>,
     chance: Chance,
+    // How many calls there were before.
+    made: usize,
     nodes: Vec<Node>,
     records: Vec<Record>,
     work: Vec<u32>,
-}
-
-// So many of the first elements, or all.
-fn front<T>(all: &[T], most: usize) -> &[T] {
-    let len = all.len();
-    let (front, _) = all.split_at(most.min(len));
-    front
-}
-
-fn front_mut<T>(all: &mut [T], most: usize) -> &mut [T] {
-    let len = all.len();
-    let (front, _) = all.split_at_mut(most.min(len));
-    front
 }
 
 impl<'a> Bench<'a> {
@@ -56,6 +43,7 @@ impl<'a> Bench<'a> {
             plan,
             plain,
             chance,
+            made: 0,
             nodes,
             records,
             work,
@@ -125,7 +113,12 @@ impl<'a> Bench<'a> {
 
     // The used number, and every line: at all addresses if they are few, else at some.
     fn check_some(&mut self, rt: &(impl Abort + AllocGlobal)) -> Result<(), Fail> {
-        assert_eq!(rt; usize::from(self.plan.used()), self.plain.used);
+        let made = self.made;
+        assert_eq!(rt;
+            usize::from(self.plan.used()),
+            self.plain.used,
+            "used after {made} calls"
+        );
         let top = addresses(self.plain.pins());
         if top <= 16 {
             for address in 0..top {
@@ -172,6 +165,18 @@ impl<'a> Bench<'a> {
         Ok(())
     }
 
+    fn note_tie(&self, call: &Call, tally: &mut Tally) -> Result<(), AllocError> {
+        match call {
+            Call::Join {
+                how: How::Overlay,
+                left,
+                right,
+                ..
+            } if self.plain.has_tie(*left, *right) => tally.note(Seen::Tie),
+            _ => Ok(()),
+        }
+    }
+
     // One more call, refused or not.
     pub fn step(&mut self, rt: &(impl Abort + AllocGlobal), tally: &mut Tally) -> Result<(), Fail> {
         let heap = rt.alloc();
@@ -181,8 +186,18 @@ impl<'a> Bench<'a> {
         let forecast = self.plain.forecast(heap, &call, lent)?;
         self.scribble();
         let told = self.run(heap, &call, lent)?;
-        assert_eq!(rt; told, forecast.answer(), "{call:?} with {lent:?}");
+        let made = self.made;
+        let order = self.plain.order;
+        assert_eq!(rt;
+            told,
+            forecast.answer(),
+            "call {made} on {order:?}: {call:?} with {lent:?}"
+        );
+        self.made = made.saturating_add(1);
         tally.note_call(call.name(), &forecast.faults)?;
+        if forecast.faults.is_empty() {
+            self.note_tie(&call, tally)?;
+        }
         let change = forecast.into_change();
         let written = change.held_line();
         self.plain.change(heap, change)?;
@@ -198,56 +213,25 @@ impl<'a> Bench<'a> {
         rt: &(impl Abort + AllocGlobal),
         tally: &mut Tally,
     ) -> Result<Bench<'a>, Fail> {
-        let heap = rt.alloc();
         let Bench {
             plan,
             plain,
             mut chance,
+            made,
             nodes,
             records,
             mut work,
         } = self;
-        chance.settle();
         let issued = plan.issue();
-        let (line, address) = choose_reading(&mut chance, &plain);
-        let lent = choose_lent(&mut chance, &plain, 0);
-        let reading = plain.read(heap, line, address, lent)?;
-        let told = issued
-            .read(front(&nodes, lent.nodes), line, address)
-            .map(Told::Code);
-        assert_eq!(rt;
-            told,
-            reading.answer(),
-            "issued, line {line} at {address} with {lent:?}"
-        );
-        tally.note_call(Name::ReadIssued, &reading.faults)?;
-        if plain.shares() {
-            tally.note(Seen::Shared)?;
+        for _ in 0..3 {
+            check_issued_read(rt, &issued, &plain, &mut chance, &nodes, tally)?;
         }
-        let mut expected = layout(heap, &plain)?;
-        let length = expected.len();
-        let room = choose_room(&mut chance, length);
-        let faults = plain.list_faults(heap, lent, length, room)?;
-        let mut buffer = vec![in heap; BEFORE; room]?;
-        let told = issued.list(
-            front(&nodes, lent.nodes),
-            front_mut(&mut work, lent.work),
-            &mut buffer,
-        );
-        match faults.first() {
-            Some(fault) => {
-                assert_eq!(rt; told, Err(*fault), "list with {lent:?} and room {room}");
-                expected.clear();
-            },
-            None => assert_eq!(rt; told, Ok(length)),
-        }
-        expected.resize(room, BEFORE)?;
-        assert_eq!(rt; buffer.as_slice(), expected.as_slice());
-        tally.note_call(Name::List, &faults)?;
+        check_listing(rt, &issued, &plain, &mut chance, &nodes, &mut work, tally)?;
         Ok(Bench {
             plan: issued.reopen(),
             plain,
             chance,
+            made,
             nodes,
             records,
             work,

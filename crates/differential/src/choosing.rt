@@ -34,7 +34,7 @@ fn choose_line(chance: &mut Chance, plain: &Plain, held: bool) -> u8 {
     if !chance.slips() {
         return next_line(plain, start, held);
     }
-    match chance.below(5) {
+    match chance.below(6) {
         0..=2 => next_line(plain, start, !held),
         3 => chance.byte_below(32),
         _ => chance.byte_below(224).saturating_add(32),
@@ -67,11 +67,30 @@ fn draw(heap: Global, chance: &mut Chance, plain: &Plain, pins: u8) -> Result<Ca
     })
 }
 
+fn is_of_bits(plain: &Plain, line: u8) -> bool {
+    match plain.line(line) {
+        Some(held) => held.truth.is_taken_by(How::Both),
+        None => true,
+    }
+}
+
+// Any joining of two lines of bits; and overlay, most often, of others.
+fn choose_how(chance: &mut Chance, plain: &Plain, left: u8, right: u8) -> How {
+    let bits = is_of_bits(plain, left) && is_of_bits(plain, right);
+    if bits || chance.one_in(4) {
+        chance.pick(&HOWS, How::Both)
+    } else {
+        How::Overlay
+    }
+}
+
 fn join(chance: &mut Chance, plain: &Plain) -> Call {
+    let left = choose_line(chance, plain, true);
+    let right = choose_line(chance, plain, true);
     Call::Join {
-        how: chance.pick(&HOWS, How::Overlay),
-        left: choose_line(chance, plain, true),
-        right: choose_line(chance, plain, true),
+        how: choose_how(chance, plain, left, right),
+        left,
+        right,
         line: choose_line(chance, plain, false),
     }
 }
@@ -126,15 +145,11 @@ fn needed_records(heap: Global, plain: &Plain, drawing: &Drawing) -> Result<usiz
 
 fn choose_records(chance: &mut Chance, needed: usize) -> usize {
     if chance.slips() {
-        chance.pick(&[needed.saturating_sub(1), chance_part(needed), 0], needed)
+        let short = chance.place_below(needed);
+        chance.pick(&[needed.saturating_sub(1), short, 0], 0)
     } else {
         needed.saturating_add(chance.pick(&[0, 0, 1, 40], 0))
     }
-}
-
-// A third of it.
-fn chance_part(needed: usize) -> usize {
-    needed / 3
 }
 
 fn choose_nodes(chance: &mut Chance, size: usize) -> usize {

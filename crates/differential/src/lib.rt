@@ -1,5 +1,5 @@
 #![tactic(auto)]
-// A differential test of plans: long rows of chosen calls, each held to truth tables.
+// A differential test of plans: long rows of calls by chance, each held to truth tables.
 #[cfg(test)]
 mod bench;
 #[cfg(test)]
@@ -13,7 +13,11 @@ mod drawing;
 #[cfg(test)]
 mod forecast;
 #[cfg(test)]
+mod issued;
+#[cfg(test)]
 mod layout;
+#[cfg(test)]
+mod lending;
 #[cfg(test)]
 mod lines;
 #[cfg(test)]

@@ -76,6 +76,14 @@ impl<'a> Plain<'a> {
         Ok(codes)
     }
 
+    // Whether an overlay of two lines is settled somewhere by which of them is on the left.
+    pub fn has_tie(&self, left: u8, right: u8) -> bool {
+        match (self.line(left), self.line(right)) {
+            (Some(a), Some(b)) => a.truth.ties_with(&b.truth),
+            _ => false,
+        }
+    }
+
     // Whether lines have parts in common.
     pub fn shares(&self) -> bool {
         let mut counts = 0usize;

@@ -73,7 +73,7 @@ fn of_five_to_seven_pins(rt: HostRuntime) -> Result<(), Fail> {
 fn of_eight_to_ten_pins(rt: HostRuntime) -> Result<(), Fail> {
     let mut tally = Tally::new(rt.alloc());
     for pins in 8..=10 {
-        run_rows(&rt, pins, &[20, 200, 4096], 60, &mut tally)?;
+        run_rows(&rt, pins, &[20, 200, 4096], 80, &mut tally)?;
     }
     check_rows_seen(&rt, &tally)
 }

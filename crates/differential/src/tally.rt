@@ -4,12 +4,13 @@ use faults::fault::{Fault, Ground};
 use std::alloc::{AllocError, Global};
 
 // A call that went through, one that was refused, one that was refused on the first ground while the second held too;
-// and a listing of lines with parts in common.
+// an overlay that took the left of two ends that tie; and a listing of lines with parts in common.
 #[derive(Clone, Copy, PartialEq, Eq, Debug)]
 pub enum Seen {
     Done(Name),
     Refused(Name, Ground),
     Contested(Name, Ground, Ground),
+    Tie,
     Shared,
 }
 

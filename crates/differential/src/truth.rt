@@ -119,6 +119,14 @@ impl Truth {
         Ok(Truth { codes })
     }
 
+    // Whether an overlay of the two is settled by the left side alone somewhere: two chips, and the same waits.
+    pub fn ties_with(&self, right: &Truth) -> bool {
+        self.codes
+            .iter()
+            .zip(right.codes.iter())
+            .any(|(l, r)| *l > 7 && *r > 7 && l != r && *l % 8 == *r % 8)
+    }
+
     // Whether a joining takes every code.
     pub fn is_taken_by(&self, how: How) -> bool {
         let codes = match how {

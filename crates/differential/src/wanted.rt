@@ -23,8 +23,9 @@ const OF_DRAWS: [Seen; 15] = [
     Seen::Contested(Name::Draw, Ground::TreeTable, Ground::Parts),
 ];
 
-const OF_JOINS: [Seen; 17] = [
+const OF_JOINS: [Seen; 18] = [
     Seen::Done(Name::Join),
+    Seen::Tie,
     Seen::Refused(Name::Join, Ground::NoLine),
     Seen::Refused(Name::Join, Ground::NodeTable),
     Seen::Refused(Name::Join, Ground::Work),
