@@ -28,6 +28,11 @@ fn next_line(plain: &Plain, start: u8, held: bool) -> u8 {
     pool_line(start)
 }
 
+// Whether every line of the pool is held.
+fn is_full(plain: &Plain) -> bool {
+    plain.line(next_line(plain, 0, false)).is_some()
+}
+
 // A line that is held, or one that is empty; or a bad one.
 fn choose_line(chance: &mut Chance, plain: &Plain, held: bool) -> u8 {
     let start = chance.byte_below(POOL);
@@ -112,19 +117,19 @@ fn erase(chance: &mut Chance, plain: &Plain) -> Call {
 
 pub fn choose_call(heap: Global, chance: &mut Chance, plain: &Plain) -> Result<Call, AllocError> {
     let pins = u8::try_from(plain.pins()).unwrap_or(0);
-    if plain.held_count() >= usize::from(POOL) && chance.one_in(2) {
+    if is_full(plain) && !chance.one_in(4) {
         return Ok(erase(chance, plain));
     }
     Ok(match chance.below(20) {
         0..=5 => draw(heap, chance, plain, pins)?,
-        6..=9 => join(chance, plain),
-        10 | 11 => strap(chance, plain, pins),
-        12 | 13 => erase(chance, plain),
-        14 | 15 => Call::Read {
+        6..=10 => join(chance, plain),
+        11..=13 => strap(chance, plain, pins),
+        14 | 15 => erase(chance, plain),
+        16 => Call::Read {
             line: choose_line(chance, plain, true),
             address: choose_address(chance, plain.pins()),
         },
-        16 | 17 => Call::Same {
+        17 | 18 => Call::Same {
             left: choose_line(chance, plain, true),
             right: choose_line(chance, plain, true),
         },

@@ -61,10 +61,6 @@ impl<'a> Plain<'a> {
         }
     }
 
-    pub fn held_count(&self) -> usize {
-        self.lines.iter().filter(|line| line.is_some()).count()
-    }
-
     // The tables of the held lines one behind the other, their pins in order.
     pub fn ordered(&self, heap: Global) -> Result<Vec<u16>, AllocError> {
         let mut codes = Vec::new(heap);

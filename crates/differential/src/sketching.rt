@@ -5,9 +5,10 @@ use crate::truth::addresses;
 use std::alloc::{AllocError, Global};
 
 // Four codes each: such that joinings of bits take too, with ties for overlay, and of the highest numbers.
-const PALETTES: [[u8; 4]; 6] = [
+const PALETTES: [[u8; 4]; 7] = [
     [0, 1, 0, 1],
     [1, 8, 17, 25],
+    [9, 17, 25, 33],
     [9, 17, 1, 0],
     [8, 16, 24, 8],
     [7, 15, 120, 127],
@@ -110,13 +111,13 @@ fn sketch_map(
 ) -> Result<Map, AllocError> {
     let addresses = rising(heap, chance, pins)?;
     let inverted = chance.one_in(4);
-    Ok(match chance.below(3) {
+    Ok(match chance.below(4) {
         0 => Map::Bits {
             first: chance.byte_below(2),
             switches: addresses,
             inverted,
         },
-        1 => {
+        1 | 2 => {
             let first = chance.pick(palette, 0);
             Map::Settings {
                 first,
