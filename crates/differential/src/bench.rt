@@ -31,7 +31,7 @@ pub struct Bench<'a> {
 }
 
 impl<'a> Bench<'a> {
-    // A new plan over a table of other people's nodes.
+    // A new plan over a table of nodes that it never made.
     pub fn new(heap: Global, seed: u64, order: &'a [u8], size: usize) -> Result<Bench<'a>, Fail> {
         let mut chance = Chance::new(seed);
         let plain = Plain::new(heap, order, size)?;

@@ -1,7 +1,7 @@
 // What a call has to tell and to leave, by the truth tables alone.
 use crate::call::{Call, How, Lent, Told};
 use crate::drawing::Drawing;
-use crate::lines::Held;
+use crate::held::Held;
 use crate::plain::{Change, Plain};
 use crate::truth::{Truth, addresses, bit_of};
 use faults::fault::{Fault, Ground};

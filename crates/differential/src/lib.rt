@@ -13,13 +13,13 @@ mod drawing;
 #[cfg(test)]
 mod forecast;
 #[cfg(test)]
+mod held;
+#[cfg(test)]
 mod issued;
 #[cfg(test)]
 mod layout;
 #[cfg(test)]
 mod lending;
-#[cfg(test)]
-mod lines;
 #[cfg(test)]
 mod makings;
 #[cfg(test)]

@@ -1,5 +1,5 @@
 // A plan as its calls see it: an order, a number of nodes, and truth tables.
-use crate::lines::Held;
+use crate::held::Held;
 use crate::parts::count_parts;
 use std::alloc::{AllocError, Global};
 

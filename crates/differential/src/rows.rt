@@ -37,12 +37,12 @@ fn run_rows(
 ) -> Result<(), Fail> {
     let heap = rt.alloc();
     let mut chance = Chance::new(u64::from(pins));
-    let orders = [
-        rising(heap, pins)?,
-        falling(heap, pins)?,
-        shuffled(heap, &mut chance, pins)?,
-    ];
     for size in sizes {
+        let orders = [
+            rising(heap, pins)?,
+            falling(heap, pins)?,
+            shuffled(heap, &mut chance, pins)?,
+        ];
         for order in &orders {
             let seed = u64::from(chance.below(u32::MAX));
             run_row(rt, seed, order, *size, rounds, tally)?;
@@ -73,7 +73,7 @@ fn of_five_to_seven_pins(rt: HostRuntime) -> Result<(), Fail> {
 fn of_eight_to_ten_pins(rt: HostRuntime) -> Result<(), Fail> {
     let mut tally = Tally::new(rt.alloc());
     for pins in 8..=10 {
-        run_rows(&rt, pins, &[20, 200, 4096], 80, &mut tally)?;
+        run_rows(&rt, pins, &[20, 200, 4096], 64, &mut tally)?;
     }
     check_rows_seen(&rt, &tally)
 }
