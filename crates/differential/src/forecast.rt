@@ -35,7 +35,7 @@ impl Forecast {
         }
     }
 
-    // What is left, which is nothing of a refused call.
+    // What the call leaves: a refused one leaves all as it was.
     pub fn into_change(self) -> Change {
         if self.faults.is_empty() {
             self.change
@@ -64,7 +64,7 @@ fn note_numbers(faults: &mut Vec<Fault>, lines: &[u8]) -> Result<(), AllocError>
     Ok(())
 }
 
-// Whether a ground leaves it open how many parts there would be.
+// Whether parts can still be counted, so that more of them than nodes would be the next ground.
 fn is_late(ground: Ground) -> bool {
     matches!(ground, Ground::LineTaken | Ground::TreeTable)
 }

@@ -81,7 +81,7 @@ impl Truth {
         Ok(Truth { codes })
     }
 
-    // The table as the so-manieth of more pins, and the fill everywhere else.
+    // The table at a base in more pins, and the fill everywhere else.
     pub fn mounted(
         &self,
         heap: Global,
