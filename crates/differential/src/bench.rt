@@ -1,5 +1,5 @@
 // A plan beside the plain one, with its tables.
-use crate::call::{Call, How, Lent, Told};
+use crate::call::{Call, Told};
 use crate::chance::Chance;
 use crate::choosing::{choose_call, choose_lent_to};
 use crate::issued::{check_issued_read, check_listing};
@@ -12,6 +12,8 @@ use crate::truth::addresses;
 use faults::fault::{Fault, Ground};
 use model::Node;
 use plans::open::OpenPlan;
+use rows::hand::Hand;
+use scripts::request::How;
 use std::alloc::{AllocError, Global};
 use std::process::Abort;
 use std::test::Fail;
@@ -65,7 +67,7 @@ impl<'a> Bench<'a> {
         &mut self,
         heap: Global,
         call: &Call,
-        lent: Lent,
+        lent: Hand,
     ) -> Result<Result<Told, Fault>, AllocError> {
         let nodes = front_mut(&mut self.nodes, lent.nodes);
         let records = front_mut(&mut self.records, lent.records);

@@ -1,14 +1,6 @@
 // Calls as values, what is lent to them, and what they tell.
 use crate::drawing::Drawing;
-
-// How two lines are joined. A joining is a type of its own; rows of calls need a value for each.
-#[derive(Clone, Copy, Debug)]
-pub enum How {
-    Both,
-    Either,
-    Differ,
-    Overlay,
-}
+use scripts::request::How;
 
 #[derive(Drop, Debug)]
 pub enum Call {
@@ -71,14 +63,6 @@ impl Call {
             Call::Count { .. } => Name::Count,
         }
     }
-}
-
-// How much of each table is lent to a call.
-#[derive(Clone, Copy, Debug)]
-pub struct Lent {
-    pub nodes: usize,
-    pub records: usize,
-    pub work: usize,
 }
 
 // What a call tells that is not refused.

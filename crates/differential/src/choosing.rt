@@ -1,10 +1,12 @@
 // Calls by chance, most of them such that they go through.
-use crate::call::{Call, How, Lent};
+use crate::call::Call;
 use crate::chance::Chance;
 use crate::drawing::Drawing;
 use crate::plain::Plain;
 use crate::sketching::sketch;
 use crate::truth::addresses;
+use rows::hand::Hand;
+use scripts::request::How;
 use std::alloc::{AllocError, Global};
 
 // So many lines are taken and emptied most of the time.
@@ -176,8 +178,8 @@ fn choose_work(chance: &mut Chance, least: usize) -> usize {
 }
 
 // What is lent to a call that needs so many tree records.
-pub fn choose_lent(chance: &mut Chance, plain: &Plain, needed: usize) -> Lent {
-    Lent {
+pub fn choose_lent(chance: &mut Chance, plain: &Plain, needed: usize) -> Hand {
+    Hand {
         nodes: choose_nodes(chance, plain.size),
         records: choose_records(chance, needed),
         work: choose_work(chance, plain.work()),
@@ -189,7 +191,7 @@ pub fn choose_lent_to(
     chance: &mut Chance,
     plain: &Plain,
     call: &Call,
-) -> Result<Lent, AllocError> {
+) -> Result<Hand, AllocError> {
     let needed = match call {
         Call::Draw { drawing, .. } => needed_records(heap, plain, drawing)?,
         _ => 0,

@@ -1,10 +1,12 @@
 // What a call has to tell and to leave, by the truth tables alone.
-use crate::call::{Call, How, Lent, Told};
+use crate::call::{Call, Told};
 use crate::drawing::Drawing;
 use crate::held::Held;
 use crate::plain::{Change, Plain};
 use crate::truth::{Truth, addresses, bit_of};
 use faults::fault::{Fault, Ground};
+use rows::hand::Hand;
+use scripts::request::How;
 use std::alloc::{AllocError, Global};
 
 // All grounds on which a call can be refused, the first of them first. Without one it tells this, and leaves this.
@@ -70,7 +72,7 @@ fn is_late(ground: Ground) -> bool {
 }
 
 impl<'a> Plain<'a> {
-    fn note_nodes(&self, faults: &mut Vec<Fault>, lent: Lent) -> Result<(), AllocError> {
+    fn note_nodes(&self, faults: &mut Vec<Fault>, lent: Hand) -> Result<(), AllocError> {
         note(
             faults,
             lent.nodes != self.size,
@@ -79,7 +81,7 @@ impl<'a> Plain<'a> {
         )
     }
 
-    fn note_tables(&self, faults: &mut Vec<Fault>, lent: Lent) -> Result<(), AllocError> {
+    fn note_tables(&self, faults: &mut Vec<Fault>, lent: Hand) -> Result<(), AllocError> {
         self.note_nodes(faults, lent)?;
         note(faults, lent.work < self.work(), Ground::Work, lent.work)
     }
@@ -119,7 +121,7 @@ impl<'a> Plain<'a> {
         heap: Global,
         drawing: &Drawing,
         line: u8,
-        lent: Lent,
+        lent: Hand,
     ) -> Result<Forecast, AllocError> {
         let mut faults = Vec::new(heap);
         if let Some(fault) = drawing.layer_fault() {
@@ -146,7 +148,7 @@ impl<'a> Plain<'a> {
         how: How,
         [left, right]: [u8; 2],
         line: u8,
-        lent: Lent,
+        lent: Hand,
     ) -> Result<Forecast, AllocError> {
         let mut faults = Vec::new(heap);
         note_numbers(&mut faults, &[left, right, line])?;
@@ -175,7 +177,7 @@ impl<'a> Plain<'a> {
         pin: u8,
         high: bool,
         line: u8,
-        lent: Lent,
+        lent: Hand,
     ) -> Result<Forecast, AllocError> {
         let mut faults = Vec::new(heap);
         note_numbers(&mut faults, &[from, line])?;
@@ -194,7 +196,7 @@ impl<'a> Plain<'a> {
         }
     }
 
-    fn erase(&self, heap: Global, line: u8, lent: Lent) -> Result<Forecast, AllocError> {
+    fn erase(&self, heap: Global, line: u8, lent: Hand) -> Result<Forecast, AllocError> {
         let mut faults = Vec::new(heap);
         note_numbers(&mut faults, &[line])?;
         self.note_tables(&mut faults, lent)?;
@@ -207,7 +209,7 @@ impl<'a> Plain<'a> {
         heap: Global,
         line: u8,
         address: u32,
-        lent: Lent,
+        lent: Hand,
     ) -> Result<Forecast, AllocError> {
         let mut faults = Vec::new(heap);
         let place = address as usize;
@@ -231,7 +233,7 @@ impl<'a> Plain<'a> {
         Ok(Forecast::new(faults, Told::Same(same), Change::Nothing))
     }
 
-    fn count(&self, heap: Global, line: u8, lent: Lent) -> Result<Forecast, AllocError> {
+    fn count(&self, heap: Global, line: u8, lent: Hand) -> Result<Forecast, AllocError> {
         let mut faults = Vec::new(heap);
         note_numbers(&mut faults, &[line])?;
         self.note_tables(&mut faults, lent)?;
@@ -245,7 +247,7 @@ impl<'a> Plain<'a> {
     pub fn list_faults(
         &self,
         heap: Global,
-        lent: Lent,
+        lent: Hand,
         length: usize,
         room: usize,
     ) -> Result<Vec<Fault>, AllocError> {
@@ -255,7 +257,7 @@ impl<'a> Plain<'a> {
         Ok(faults)
     }
 
-    pub fn forecast(&self, heap: Global, call: &Call, lent: Lent) -> Result<Forecast, AllocError> {
+    pub fn forecast(&self, heap: Global, call: &Call, lent: Hand) -> Result<Forecast, AllocError> {
         match call {
             Call::Draw { drawing, line } => self.draw(heap, drawing, *line, lent),
             Call::Join {

@@ -1,7 +1,6 @@
 // Calls made on a plan. The tables are three parameters, as in the calls of a plan.
-use crate::call::{Call, How, Told};
+use crate::call::{Call, Told};
 use crate::drawing::{Drawing, Map};
-use ends::joining::{Both, Differ, Either, Overlay};
 use faults::fault::Fault;
 use model::Node;
 use plans::open::OpenPlan;
@@ -16,6 +15,7 @@ use sources::mounted::Mounted;
 use sources::source::Source;
 use std::alloc::{AllocError, Global};
 use trees::tree::Record;
+use workbench::joining::join;
 
 // A source with the last layer over it.
 fn draw_turned<S: Source>(
@@ -123,23 +123,6 @@ fn draw(
             draw_bits::<Ranges>(plan, bytes, inverted, drawing, line, nodes, records, work)
         },
         Map::Settings { .. } => draw_settings(plan, bytes, drawing, line, nodes, records, work),
-    }
-}
-
-fn join(
-    plan: &mut OpenPlan,
-    how: How,
-    left: u8,
-    right: u8,
-    line: u8,
-    nodes: &mut [Node],
-    work: &mut [u32],
-) -> Result<(), Fault> {
-    match how {
-        How::Both => plan.join(&Both, left, right, line, nodes, work),
-        How::Either => plan.join(&Either, left, right, line, nodes, work),
-        How::Differ => plan.join(&Differ, left, right, line, nodes, work),
-        How::Overlay => plan.join(&Overlay, left, right, line, nodes, work),
     }
 }
 

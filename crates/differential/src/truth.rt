@@ -1,9 +1,7 @@
 // The code of each address, and what layers, joins and straps make of it.
-use crate::call::How;
+use map_tests::truth::{NO_CODE, joined_code};
+use scripts::request::How;
 use std::alloc::{AllocError, Global};
-
-// No kind's code.
-const NO_CODE: u16 = u16::MAX;
 
 // How many addresses so many pins have.
 pub fn addresses(pins: usize) -> usize {
@@ -28,29 +26,6 @@ fn address_of(order: &[u8], values: usize) -> usize {
         left /= 2;
     }
     address
-}
-
-// The setting that wins: one with a chip before one with none, then the one with more waits, then the left.
-fn overlaid(left: u16, right: u16) -> u16 {
-    let idle = left / 8 == 0;
-    if idle != (right / 8 == 0) {
-        if idle { right } else { left }
-    } else if left % 8 < right % 8 {
-        right
-    } else {
-        left
-    }
-}
-
-impl How {
-    fn of_codes(self, left: u16, right: u16) -> u16 {
-        match self {
-            How::Both => left & right,
-            How::Either => left | right,
-            How::Differ => left ^ right,
-            How::Overlay => overlaid(left, right),
-        }
-    }
 }
 
 fn is_mixed(block: &[u16]) -> bool {
@@ -114,7 +89,7 @@ impl Truth {
             .codes
             .iter()
             .zip(right.codes.iter())
-            .map(|(left, right)| how.of_codes(*left, *right))
+            .map(|(left, right)| joined_code(how, *left, *right))
             .collect(heap)?;
         Ok(Truth { codes })
     }

@@ -1,6 +1,7 @@
 // Truth tables: the code of each address. A table of fewer pins repeats itself.
 ghost use Rattle.std.specs.Prelude.{◌≡◌, ◌≤◌, slice_index_or};
 
+use scripts::request::How;
 use std::array;
 
 pub type Table<const N: usize> = [u16; N];
@@ -36,4 +37,26 @@ pub fn bits<const N: usize>(pins: usize, pattern: u64) -> Table<N> {
 pub fn settings<const N: usize>(four: &[u16; 4], pins: usize, pattern: u64) -> Table<N> {
     let count = addresses(pins);
     array::from_fn(|address| code_at(four, (pattern >> (address % count * 2) & 3) as usize))
+}
+
+// The setting that wins: one with a chip before one with none, then the one with more waits, then the left.
+fn overlaid(left: u16, right: u16) -> u16 {
+    let idle = left / 8 == 0;
+    if idle != (right / 8 == 0) {
+        if idle { right } else { left }
+    } else if left % 8 < right % 8 {
+        right
+    } else {
+        left
+    }
+}
+
+// The code that a joining makes of two.
+pub fn joined_code(how: How, left: u16, right: u16) -> u16 {
+    match how {
+        How::Both => left & right,
+        How::Either => left | right,
+        How::Differ => left ^ right,
+        How::Overlay => overlaid(left, right),
+    }
 }

@@ -1,5 +1,5 @@
 // What joins and straps make of truth tables.
-use map_tests::truth::{self, addresses, code_at};
+use map_tests::truth::{self, addresses, code_at, joined_code};
 use scripts::request::How;
 use std::array;
 
@@ -13,28 +13,8 @@ pub fn bit_of(pins: usize, pin: u8) -> usize {
     addresses(pins) / 2 >> (pin % 4)
 }
 
-// The setting that wins: one with a chip before one with none, then the one with more waits, then the left.
-fn overlaid(left: u16, right: u16) -> u16 {
-    let idle = left / 8 == 0;
-    if idle != (right / 8 == 0) {
-        if idle { right } else { left }
-    } else if left % 8 < right % 8 {
-        right
-    } else {
-        left
-    }
-}
-
 pub fn joined(how: How, left: &Table, right: &Table) -> Table {
-    array::from_fn(|address| {
-        let (l, r) = (left[address], right[address]);
-        match how {
-            How::Both => l & r,
-            How::Either => l | r,
-            How::Differ => l ^ r,
-            How::Overlay => overlaid(l, r),
-        }
-    })
+    array::from_fn(|address| joined_code(how, left[address], right[address]))
 }
 
 // Each address with the code that it has once the bit is set.

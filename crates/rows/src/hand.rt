@@ -3,7 +3,7 @@ ghost use Rattle.std.specs.Prelude.{◌≡◌, ◌-◌, ◌^◌, length, min};
 use crate::lent::Tables;
 
 // How much of each lent table a call is handed: at most so many from the front.
-#[derive(Clone, Copy)]
+#[derive(Clone, Copy, Debug)]
 pub struct Hand {
     pub nodes: usize,
     pub records: usize,

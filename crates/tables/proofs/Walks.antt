@@ -1,8 +1,7 @@
 -- Reading along an order.
-use Rattle.std.proofs.Common.{◌≡◌, ℕ, zero, suc, ◌+◌, ◌<◌, ◌≤◌, List, [], ◌∷◌, length, get_or, drop, sym, refl, ap, ◌∙◌, inl, inr, add-one, arith, drop-cons}
+use Rattle.std.proofs.Common.{◌≡◌, ℕ, ◌+◌, ◌<◌, ◌≤◌, List, length, get_or, drop, sym, ap, ◌∙◌, add-one, drop-cons}
 use Rattle.std.proofs.lemmas.List.{at_drop_all}
 use Rattle.model.specs.declared.Branch.{Branch}
-use Rattle.model.specs.Lists.{In}
 use Rattle.model.specs.Selections.{pin}
 use Rattle.model.specs.Diagrams.{Table, next, code, walk}
 

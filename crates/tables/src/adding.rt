@@ -1,4 +1,4 @@
-ghost use Rattle.std.specs.Prelude.{◌≡◌, ◌+◌, ◌<◌, ◌≤◌, length, slice_set};
+ghost use Rattle.std.specs.Prelude.{◌≡◌, ◌+◌, ◌<◌, ◌≤◌, length, None, slice_set};
 ghost use Rattle.model.specs.Diagrams.{listed, next};
 ghost use Rattle.tables.specs.Additions.{AddsNode, KeepsLoans, Prepares};
 ghost use Rattle.tables.specs.Probes.{Freed, Probed};
@@ -95,10 +95,12 @@ impl<'a> Growing<'a> {
     }
 
     // A branch for the pin at a place with two branches: the branch itself where both are one,
-    // the live node that is alike, or else a new node in a slot that is not live. None where no slot is left.
+    // the live node that is alike, or else a new node in a slot that is not live. None where no slot is left,
+    // and where the place is past the pins.
     pub fn node_for(&mut self, place: u8, low: Branch, high: Branch) -> Option<Branch>
         ensures loans { KeepsLoans self.old self.new }
         ensures adds { AddsNode place low high self.old self.new result }
+        ensures past { self.old.pins ≤ place → (result ≡ None) × (self.new.nodes.now ≡ self.old.nodes.now) }
     {
         let len = self.nodes.len();
         if self.marks.len() != len || len > MOST_NODES || place >= self.pins {
