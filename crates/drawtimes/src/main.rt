@@ -4,13 +4,13 @@ use faults::fault::Fault;
 use map_tests::building::bit_map;
 use model::Node;
 use plans::open::OpenPlan;
+use plans::work::work_for;
 use readers::bit_file::BitFile;
 use std::alloc::{AllocError, Global};
 use std::time::Instant;
 use std::{env, fmt, io};
+use tables::indexing::MOST_NODES;
 use trees::tree::Record;
-
-const NODES: usize = 4096;
 
 const RECORDS: usize = 20_480;
 
@@ -51,10 +51,6 @@ impl fmt::Display for Order {
     }
 }
 
-fn work_for(heap: Global, pins: u8) -> Result<Vec<u32>, AllocError> {
-    vec![in heap; 0; 4 * (pins as usize + 1) * (NODES + 2)]
-}
-
 // The microseconds that a draw takes, and its outcome.
 fn time_draw(
     rt: &HostRuntime,
@@ -72,7 +68,7 @@ fn time_draw(
 
 // Draws a map on a new plan, and prints the time and the used number or the refusal.
 fn print_draw(rt: &HostRuntime, order: &[u8], file: &BitFile, work: &mut [u32]) -> io::Result<()> {
-    let mut nodes = vec![in rt.alloc(); Node::blank(); NODES]?;
+    let mut nodes = vec![in rt.alloc(); Node::blank(); MOST_NODES]?;
     match OpenPlan::new(order, &nodes) {
         Ok(mut plan) => {
             let (time, told) = time_draw(rt, &mut plan, file, &mut nodes, work)?;
@@ -103,13 +99,14 @@ fn print_row(
     order: Order,
 ) -> io::Result<()> {
     let row = order.pins(rt.alloc(), pins)?;
-    let mut work = work_for(rt.alloc(), pins)?;
+    let mut work = vec![in rt.alloc(); 0; work_for(pins, MOST_NODES as u16)]?;
     print!(rt; "{pins} {count} {order} ")?;
     print_draw(rt, &row, file, &mut work)
 }
 
 // The rows of one map: at most one switch for each address above 0.
-fn print_map(rt: &HostRuntime, pins: u8, addresses: u32, most: u32) -> io::Result<()> {
+fn print_map(rt: &HostRuntime, pins: u8, most: u32) -> io::Result<()> {
+    let addresses = 1u32.checked_shl(u32::from(pins)).unwrap_or(0);
     let count = most.min(addresses.saturating_sub(1));
     let switches = spread(rt.alloc(), addresses, count)?;
     let bytes = bit_map(rt.alloc(), pins, &switches)?;
@@ -120,19 +117,19 @@ fn print_map(rt: &HostRuntime, pins: u8, addresses: u32, most: u32) -> io::Resul
     Ok(())
 }
 
-fn print_maps(rt: &HostRuntime, pins: u8, addresses: u32) -> io::Result<()> {
+fn print_maps(rt: &HostRuntime, pins: u8) -> io::Result<()> {
     for most in [1, 16, 256, 1024] {
-        print_map(rt, pins, addresses, most)?;
+        print_map(rt, pins, most)?;
     }
     Ok(())
 }
 
 fn print_table(rt: &HostRuntime) -> io::Result<()> {
     println!(rt; "pins switches order microseconds outcome")?;
-    print_maps(rt, 8, 1 << 8)?;
-    print_maps(rt, 12, 1 << 12)?;
-    print_maps(rt, 16, 1 << 16)?;
-    print_maps(rt, 20, 1 << 20)
+    print_maps(rt, 8)?;
+    print_maps(rt, 12)?;
+    print_maps(rt, 16)?;
+    print_maps(rt, 20)
 }
 
 fn is_asked(rt: &HostRuntime) -> io::Result<bool> {

@@ -6,104 +6,84 @@ use std::test::Fail;
 
 struct Case {
     bytes: &'static [u8],
-    format: Format,
     told: &'static str,
 }
 
 const SWITCHES: [Case; 19] = [
     Case {
         bytes: b"SWL\x00\x01\x00\x02\x00\x00\x02\x00\x00\x01\x00\x00\x03",
-        format: Format::Bits,
         told: "ACCEPTED",
     },
     Case {
         bytes: b"SWL\x00\x01\x00\x02\x01\x00\x00",
-        format: Format::Bits,
         told: "ACCEPTED",
     },
     Case {
         bytes: b"",
-        format: Format::Bits,
         told: "REFUSED 1 F 0",
     },
     Case {
         bytes: b"XWL\x00\x01\x00\x02\x00\x00",
-        format: Format::Bits,
         told: "REFUSED 1 F 9",
     },
     Case {
         bytes: b"SWX\x00\x02\x01\x00\x02\x09\x00",
-        format: Format::Bits,
         told: "REFUSED 2 F 0",
     },
     Case {
         bytes: b"RNG\x00\x01\x00\x02\x00\x00\x00",
-        format: Format::Bits,
         told: "REFUSED 2 F 0",
     },
     Case {
         bytes: b"SWL\x01\x01\x01\x00\x02\x09\x00",
-        format: Format::Bits,
         told: "REFUSED 3 F 3",
     },
     Case {
         bytes: b"SWL\x00\x02\x01\x00\x02\x09\x00",
-        format: Format::Bits,
         told: "REFUSED 3 F 3",
     },
     Case {
         bytes: b"SWL\x00\x01\x01\x00\x02\x09\x00",
-        format: Format::Bits,
         told: "REFUSED 4 F 5",
     },
     Case {
         bytes: b"SWL\x00\x01\x00\x00\x02\x09\x00",
-        format: Format::Bits,
         told: "REFUSED 5 F 6",
     },
     Case {
         bytes: b"SWL\x00\x01\x00\x15\x02\x09\x00",
-        format: Format::Bits,
         told: "REFUSED 5 F 6",
     },
     Case {
         bytes: b"SWL\x00\x01\x00\x02\x02\x04\x01",
-        format: Format::Bits,
         told: "REFUSED 6 F 8",
     },
     Case {
         bytes: b"SWL\x00\x01\x00\x02\x02\x00\x01\x00\x00",
-        format: Format::Bits,
         told: "REFUSED 1 F 12",
     },
     Case {
         bytes: b"SWL\x00\x01\x00\x02\x02\x00\x01\x00\x00\x09\x07",
-        format: Format::Bits,
         told: "REFUSED 7 F 13",
     },
     Case {
         bytes: b"SWL\x00\x01\x00\x02\x02\x00\x01\x00\x00\x09",
-        format: Format::Bits,
         told: "REFUSED 10 M 0",
     },
     Case {
         bytes: b"SWL\x00\x01\x00\x02\x00\x00\x01\x00\x00\x04",
-        format: Format::Bits,
         told: "REFUSED 8 M 1",
     },
     Case {
         bytes: b"SWL\x00\x01\x00\x02\x00\x00\x01\x00\x00\x00",
-        format: Format::Bits,
         told: "REFUSED 9 M 1",
     },
     Case {
         bytes: b"SWL\x00\x01\x00\x02\x00\x00\x02\x00\x00\x02\x00\x00\x02",
-        format: Format::Bits,
         told: "REFUSED 9 M 2",
     },
     Case {
         bytes: b"SWL\x00\x01\x00\x02\x00\x00\x02\x00\x00\x02\x00\x00\x04",
-        format: Format::Bits,
         told: "REFUSED 8 M 2",
     },
 ];
@@ -111,72 +91,58 @@ const SWITCHES: [Case; 19] = [
 const SETTINGS: [Case; 14] = [
     Case {
         bytes: b"SWL\x00\x01\x01\x02\x08\x00\x02\x00\x00\x01\x10\x00\x00\x02\x08",
-        format: Format::Settings,
         told: "ACCEPTED",
     },
     Case {
         bytes: b"SWL\x00\x01\x01\x02\x08\x00",
-        format: Format::Settings,
         told: "REFUSED 1 F 9",
     },
     Case {
         bytes: b"SWM\x00\x01\x01\x02\x08\x00\x00",
-        format: Format::Settings,
         told: "REFUSED 2 F 0",
     },
     Case {
         bytes: b"SWL\x00\x00\x01\x02\x08\x00\x00",
-        format: Format::Settings,
         told: "REFUSED 3 F 3",
     },
     Case {
         bytes: b"SWL\x00\x01\x00\x02\x08\x00\x00",
-        format: Format::Settings,
         told: "REFUSED 4 F 5",
     },
     Case {
         bytes: b"SWL\x00\x01\x01\x15\x08\x00\x00",
-        format: Format::Settings,
         told: "REFUSED 5 F 6",
     },
     Case {
         bytes: b"SWL\x00\x01\x01\x02\x08\xFF\xFF",
-        format: Format::Settings,
         told: "REFUSED 6 F 8",
     },
     Case {
         bytes: b"SWL\x00\x01\x01\x02\x08\x00\x01\x00\x00\x01",
-        format: Format::Settings,
         told: "REFUSED 1 F 13",
     },
     Case {
         bytes: b"SWL\x00\x01\x01\x02\x08\x00\x00\x00",
-        format: Format::Settings,
         told: "REFUSED 7 F 10",
     },
     Case {
         bytes: b"SWL\x00\x01\x01\x02\x80\x00\x00",
-        format: Format::Settings,
         told: "REFUSED 10 M 0",
     },
     Case {
         bytes: b"SWL\x00\x01\x01\x02\x08\x00\x01\x01\x00\x00\x80",
-        format: Format::Settings,
         told: "REFUSED 8 M 1",
     },
     Case {
         bytes: b"SWL\x00\x01\x01\x02\x08\x00\x01\x00\x00\x00\x80",
-        format: Format::Settings,
         told: "REFUSED 9 M 1",
     },
     Case {
         bytes: b"SWL\x00\x01\x01\x02\x08\x00\x01\x00\x00\x01\x80",
-        format: Format::Settings,
         told: "REFUSED 10 M 1",
     },
     Case {
         bytes: b"SWL\x00\x01\x01\x02\x08\x00\x01\x00\x00\x01\x08",
-        format: Format::Settings,
         told: "REFUSED 11 M 1",
     },
 ];
@@ -184,99 +150,84 @@ const SETTINGS: [Case; 14] = [
 const RANGES: [Case; 15] = [
     Case {
         bytes: b"RNG\x00\x01\x03\x00\x02\x00\x00\x00\x00\x00\x01\x00\x00\x03\x00\x00\x07",
-        format: Format::Ranges,
         told: "ACCEPTED",
     },
     Case {
         bytes: b"RNG\x00\x01\x03\x00\x00",
-        format: Format::Ranges,
         told: "ACCEPTED",
     },
     Case {
         bytes: b"RNG\x00\x01\x03\x00",
-        format: Format::Ranges,
         told: "REFUSED 1 F 7",
     },
     Case {
         bytes: b"SWL\x00\x01\x03\x00\x00",
-        format: Format::Ranges,
         told: "REFUSED 2 F 0",
     },
     Case {
         bytes: b"RNG\x00\x03\x03\x00\x00",
-        format: Format::Ranges,
         told: "REFUSED 3 F 3",
     },
     Case {
         bytes: b"RNG\x00\x01\x00\x00\x00",
-        format: Format::Ranges,
         told: "REFUSED 5 F 5",
     },
     Case {
         bytes: b"RNG\x00\x01\x15\x00\x00",
-        format: Format::Ranges,
         told: "REFUSED 5 F 5",
     },
     Case {
         bytes: b"RNG\x00\x01\x03\x04\x01",
-        format: Format::Ranges,
         told: "REFUSED 6 F 6",
     },
     Case {
         bytes: b"RNG\x00\x01\x03\x00\x01\x00\x00\x00\x00\x00",
-        format: Format::Ranges,
         told: "REFUSED 1 F 13",
     },
     Case {
         bytes: b"RNG\x00\x01\x03\x00\x00\x00",
-        format: Format::Ranges,
         told: "REFUSED 7 F 8",
     },
     Case {
         bytes: b"RNG\x00\x01\x03\x00\x01\x00\x00\x08\x00\x00\x02",
-        format: Format::Ranges,
         told: "REFUSED 8 M 1",
     },
     Case {
         bytes: b"RNG\x00\x01\x03\x00\x01\x00\x00\x02\x00\x00\x08",
-        format: Format::Ranges,
         told: "REFUSED 8 M 1",
     },
     Case {
         bytes: b"RNG\x00\x01\x03\x00\x01\x00\x00\x02\x00\x00\x01",
-        format: Format::Ranges,
         told: "REFUSED 9 M 1",
     },
     Case {
         bytes: b"RNG\x00\x01\x03\x00\x02\x00\x00\x00\x00\x00\x01\x00\x00\x02\x00\x00\x07",
-        format: Format::Ranges,
         told: "REFUSED 9 M 2",
     },
     Case {
         bytes: b"RNG\x00\x01\x03\x00\x02\x00\x00\x03\x00\x00\x04\x00\x00\x00\x00\x00\x01",
-        format: Format::Ranges,
         told: "REFUSED 9 M 2",
     },
 ];
 
-fn check_all(rt: &(impl Abort + AllocGlobal), cases: &[Case]) -> Result<(), Fail> {
+fn check_all(rt: &(impl Abort + AllocGlobal), format: Format, cases: &[Case]) -> Result<(), Fail> {
     for case in cases {
-        check_verdict(rt, case.bytes, case.format, case.told)?;
+        check_verdict(rt, case.bytes, format, case.told)?;
     }
     Ok(())
 }
 
 #[test]
 fn switch_files_of_bits(rt: HostRuntime) -> Result<(), Fail> {
-    check_all(&rt, &SWITCHES)
+    check_all(&rt, Format::Bits, &SWITCHES)
 }
 
 #[test]
 fn switch_files_of_settings(rt: HostRuntime) -> Result<(), Fail> {
-    check_all(&rt, &SETTINGS)
+    check_all(&rt, Format::Settings, &SETTINGS)
 }
 
 #[test]
 fn range_files(rt: HostRuntime) -> Result<(), Fail> {
-    check_all(&rt, &RANGES)
+    check_all(&rt, Format::Ranges, &RANGES)
 }

@@ -41,8 +41,8 @@ fn draw<K: Kind>(
     plan.draw(&MapFile::<K>::over(bytes), d, nodes, records, work)
 }
 
-// Makes the call on a plan of so many pins, and hands back its refusal. The tables are three parameters, as in the calls
-// of a plan.
+// Makes the call on a plan of so many pins, and hands back its refusal. The tables are three parameters: a
+// `Tables` of parts of the bench's was tried, and the borrow checker does not cover it.
 pub fn run(
     heap: Global,
     step: Step,

@@ -7,7 +7,7 @@ use Rattle.model.specs.Selections.{Alike}
 use Rattle.model.specs.Diagrams.{listed, Means, Ordered, Reduced, Reached, Reaches}
 use Rattle.plans.specs.declared.header.Header.{Header}
 use Rattle.plans.specs.Results.{refusal}
-use Rattle.plans.specs.Plain.{Plain, Call, pins, line, used_of, code_of, count_line, empty_plan, make_told, input_told, told, after, read_refusal, read_told, count_refusal, count_told, same_told}
+use Rattle.plans.specs.Plain.{Plain, Call, pins, line, used_of, code_of, count_line, empty_plan, make_told, input_told, told, after, read_refusal, read_told, count_refusal, count_told, same_refusal, same_told}
 
 -- the order of a plan
 abbrev pub order_of : Header → List ℕ
@@ -60,9 +60,9 @@ pub record Counts (h : Header) (nodes : List Node) (d work : ℕ) (r : Result �
   pub tells : (p : Plain) → Holds h nodes p → ToldValue r (count_told p d (length nodes) work) (λ c. c ≡ count_line p d)
 
 -- comparing two lines: whether they have one selection
-abbrev pub Compares : Header → ℕ → ℕ → Result Bool Fault → Type 0
-Compares h a b r =
-    (nodes : List Node) (p : Plain) → Holds h nodes p → ToldValue r (same_told p a b) (λ yes. Decides yes (Alike (pins p) (line p a) (line p b)))
+pub record Compares (h : Header) (a b : ℕ) (r : Result Bool Fault) : Type 0 where
+  pub turned : (f : Fault) → same_refusal a b ≡ Some f → r ≡ Err f
+  pub tells : (nodes : List Node) (p : Plain) → Holds h nodes p → ToldValue r (same_told p a b) (λ yes. Decides yes (Alike (pins p) (line p a) (line p b)))
 
 -- the used number is that of the plain plan
 abbrev pub Uses : Header → ℕ → Type 0

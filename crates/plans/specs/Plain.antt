@@ -154,8 +154,11 @@ read_refusal n size d a nodes = no_line d (refuse_if (nat_le (2 ^ n) a) (at grou
 abbrev pub read_told : Plain → (line address nodes : ℕ) → Option Fault
 read_told p d a nodes = or_else (read_refusal (pins p) p.size d a nodes) (line_empty p d None)
 
+abbrev pub same_refusal : (a b : ℕ) → Option Fault
+same_refusal a b = no_line a (no_line b None)
+
 abbrev pub same_told : Plain → (a b : ℕ) → Option Fault
-same_told p a b = no_line a (no_line b (line_empty p a (line_empty p b None)))
+same_told p a b = or_else (same_refusal a b) (line_empty p a (line_empty p b None))
 
 abbrev pub count_refusal : (n size line nodes work : ℕ) → Option Fault
 count_refusal n size d nodes work = no_line d (other_tables n size nodes work)

@@ -7,6 +7,7 @@ ghost use Rattle.plans.specs.Results.{refusal};
 
 use crate::header::Header;
 use crate::line_number::LineNumber;
+use crate::work::work_for;
 use faults::fault::{Fault, Ground};
 use model::Branch;
 use tables::line::Line;
@@ -25,13 +26,14 @@ impl Header {
         ensures { refusal result ≡ other_tables self.now.pins self.now.size nodes work }
     {
         self.check_nodes(nodes)?;
-        if work < 4 * (usize::from(self.pins) + 1) * (self.size + 2) {
+        if work < work_for(self.pins, self.size as u16) {
             return Err(Ground::Work.at(work));
         }
         Ok(())
     }
 
     // What erase, count and draw ask of a line and the tables.
+    // Here and in the checks of other calls the lengths are two numbers: a struct of both would be made anew at each call.
     pub(crate) fn check_held(
         &self,
         line: u8,
@@ -83,9 +85,9 @@ impl Header {
     pub(crate) fn check_vacant(&self, line: LineNumber) -> Result<(), Fault>
         ensures { MatchResult result (λ _. slice_index_or self.now.lines line.number None ≡ None) (λ f. ((b : Branch) × (slice_index_or self.now.lines line.number None ≡ Some b)) × (f ≡ at LineTaken line.number)) }
     {
-        match self.line(line) {
-            None => Ok(()),
-            Some(_) => Err(Ground::LineTaken.at(usize::from(line.number))),
+        if self.line(line).is_some() {
+            return Err(Ground::LineTaken.at(usize::from(line.number)));
         }
+        Ok(())
     }
 }

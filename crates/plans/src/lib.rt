@@ -17,3 +17,4 @@ mod order;
 pub mod plan;
 mod settling;
 pub mod strapping;
+pub mod work;

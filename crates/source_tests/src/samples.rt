@@ -17,7 +17,8 @@ pub const ALL_BITS: [(usize, u64); 3] = [(1, 4), (2, 16), (3, 256)];
 // All tables of four settings of 1 and 2 pins.
 pub const ALL_SETTINGS: [(usize, u64); 2] = [(1, 16), (2, 256)];
 
-// Three makers that are alike, since the files are of three kinds, each with a writer of its own.
+// Three makers that are alike: one over all of them would take the writer as a closure, with a `requires`, and save a line
+// in each.
 pub fn settings(heap: Global, pins: usize, pattern: u64) -> Result<Sample, AllocError> {
     let codes = truth::settings(&SETTINGS, pins, pattern);
     let bytes = setting_file(heap, pins, &codes)?;

@@ -63,7 +63,7 @@ compared p a b (Ok x) t = subst (ComparedAt p a b (Ok (answer.Same x))) (sym t.0
 compared p a b (Err f) t = subst (ComparedAt p a b (Ok (answer.Refused f))) (sym t) refl
 
 pub told_same : (h : Header) (nodes : List Node) (p : Plain) (a b : ℕ) (r : Result Bool Fault) → Compares h a b r → Holds h nodes p → Compared p a b (Ok (valued (λ x. answer.Same x) r))
-told_same h nodes p a b r c o = compared p a b r (c nodes p o)
+told_same h nodes p a b r c o = compared p a b r (c.tells nodes p o)
 
 -- a draw, refused before the plan is called or by the plan, or done
 pub record Drawn (h h' : Header) (nodes nodes' : List Node) (p : Plain) (t : Option Fault) (c : Call) (r : Result (Unit {0}) Fault) : Type 0 where
