@@ -35,7 +35,7 @@ fn marked_decode<E: End>(nodes: &[Node], marks: &[u32]) -> bool
         .all(|(node, mark)| *mark == 0 || node_decodes::<E>(*node))
 }
 
-// Whether every code of a root's diagram decodes in the kind E. The marks are overwritten.
+// Whether every code of a root's diagram decodes in the kind E, with a mark for each node. The marks are overwritten.
 pub fn codes_pass<E: End>(nodes: &[Node], marks: &mut [u32], pins: u8, root: Branch) -> bool
     ensures { Passes (decodes E.End.decoded) pins nodes.now marks.old root result }
 {

@@ -39,7 +39,8 @@ pub fn settings<const N: usize>(four: &[u16; 4], pins: usize, pattern: u64) -> T
     array::from_fn(|address| code_at(four, (pattern >> (address % count * 2) & 3) as usize))
 }
 
-// The setting that wins: one with a chip before one with none, then the one with more waits, then the left.
+// The setting that wins: one with a chip before one with none, then the one with more waits, then the left. Told by cases,
+// where the product compares pairs.
 fn overlaid(left: u16, right: u16) -> u16 {
     let idle = left / 8 == 0;
     if idle != (right / 8 == 0) {

@@ -5,7 +5,8 @@ use model::Node;
 use tables::line::Line;
 use tables::marking::{count_marks, mark_roots};
 
-// A node table, with a mark for each node.
+// A node table, with a mark for each node. Not a type of tables, whose public functions take the two slices apart: it would
+// ask more of their callers.
 #[derive(Drop)]
 pub(crate) struct Marking<'a> {
     pub(crate) nodes: &'a [Node],

@@ -27,7 +27,8 @@ pub fn plan_after<R: Row>(row: &R, order: &[u8], tables: &mut Tables) -> Result<
 }
 
 // The count of a line, or nothing where it is refused.
-// From here on nodes and work go apart, as the plan's calls take them: a call may not lend one field of `Tables` beside another.
+// From here on nodes and work go apart: nodes are only read, and a `&` of one field of `Tables` beside a `&mut` of another
+// has no rule.
 #[tactic(auto, using(crate::proofs::Pricing::counted))]
 fn count_of(plan: &OpenPlan, nodes: &[Node], work: &mut [u32], line: u8) -> Option<u16>
     ensures { (p : Plain) → Holds plan.now.header nodes.now p → result ≡ count_if_told p line (length nodes.now) (length work.old) }

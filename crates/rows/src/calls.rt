@@ -1,5 +1,6 @@
 // The rows of one call.
-// Each cuts the tables that it hands out itself: parts of a `&mut` that a method of `Tables` cut would tell nothing of the whole.
+// Each cuts the tables that it hands out itself: parts of a `&mut` that a method of `Tables` cut would tell nothing of the
+// whole. One row over any call, with a trait of calls, would be a layer more for whoever writes rows, to save these lines.
 ghost use Rattle.std.specs.Prelude.{[], ◌∷◌};
 ghost use Rattle.growths.specs.Codes.{code_join, decodes};
 ghost use Rattle.plans.specs.Plain.{draw, join, strap, erase};

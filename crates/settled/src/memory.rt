@@ -3,8 +3,8 @@ ghost use Rattle.std.specs.Prelude.{◌≡◌, length};
 use model::Node;
 use trees::tree::Record;
 
-// The tables of a plan of two pins and three nodes. Callers lend its fields through one `&mut` of it: two fields of a
-// variable are not covered.
+// The tables of a plan of two pins and three nodes. Callers lend its fields through one `&mut` of it, and by `&mut` even to be
+// read: two fields of a variable are not covered, nor a `&` beside a `&mut`.
 #[derive(Clone, Copy)]
 pub(crate) struct Memory {
     pub(crate) nodes: [Node; 3],

@@ -27,7 +27,8 @@ impl<S: Source + Drop> Flipped<S> {
 }
 
 // The block that has the addresses of a block with the pins of the mask turned over.
-// That there are at most 20 pins is a law of each source, and so a premise here and in `overlap_of`, and no type.
+// That there are at most 20 pins is a law of each source, and so a premise here; as a type it would stand in the public
+// trait.
 fn turned_block(pins: u32, mask: u32, block: Block) -> Block
     requires { (pins ≤ 20) × (block.level ≤ pins) }
     ensures { (result.level ≡ block.level) × (result.number ≡ turned pins mask block.level block.number) }

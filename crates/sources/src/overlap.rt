@@ -15,7 +15,7 @@ pub(crate) enum Overlap {
 }
 
 // How a block meets a source of `own` pins that stands in `pins` pins at `base`.
-// That both are at most 20 is a law of each source, and stands in no type here.
+// That both are at most 20 is a law of each source; as a type it would stand in the public trait.
 pub(crate) fn overlap_of(pins: u32, own: u32, base: u32, block: Block) -> Overlap
     requires { (pins ≤ 20) × ((own ≤ 20) × (block.level ≤ pins)) }
     ensures { result ≡ overlap pins own base block.level block.number }

@@ -11,6 +11,8 @@ use model::{Branch, Node};
 
 // A node table that grows, with marks and an index over its live nodes. All three are memory lent by the caller,
 // so nodes go by number, a mark is 0 or 1, and an entry of the index is 0 or a slot's number and 1.
+// A growth answers None where no slot is left. So it does where the tables were not made ready, of which nothing is promised:
+// marks of another length than the nodes tell that, and not an option, so that each growth is total over any tables.
 #[derive(Drop)]
 pub struct Growing<'a> {
     pub nodes: &'a mut [Node],
@@ -21,6 +23,7 @@ pub struct Growing<'a> {
 
 impl<'a> Growing<'a> {
     // Cuts marks and index out of the work, marks what is reached from the held lines, and makes the index over it.
+    // With more nodes than any plan has, or work too short for both, there are no marks and no index.
     pub fn prepare(
         nodes: &'a mut [Node],
         work: &'a mut [u32],

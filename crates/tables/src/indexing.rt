@@ -35,7 +35,8 @@ pub enum Found {
 }
 
 // Looks a node up in the index.
-// That a table has at most 4,096 nodes, so that a slot fits in 16 bits, stays a premise: it is the caller's slice.
+// That a table has at most 4,096 nodes, so that a slot fits in 16 bits, stays a premise here and below: the slices are parts
+// of a `Growing`, which is made over tables of any length, so that no growth asks for anything.
 pub(crate) fn probe(nodes: &[Node], index: &[u32], wanted: Node) -> Found
     requires { length nodes.now ≤ 4096 }
     ensures { Probed nodes.now index.now wanted result }

@@ -65,7 +65,8 @@ fn is_high(pins: usize, p: u8, address: u32) -> bool
     pins <= 32 && usize::from(p) < pins && (address >> (pins - 1 - usize::from(p))) % 2 == 1
 }
 
-// The code at which an address ends, read from a root along the order.
+// The code at which an address ends, read from a root along the order; 0 for an order longer than any plan's.
+// The order is the caller's slice, and any other is read without harm: a type for it would ask more of callers.
 pub fn read(nodes: &[Node], order: &[u8], root: Branch, address: u32) -> u16
     ensures { length order.now ≤ 20 → ((p : ℕ) → In p order.now → p < length order.now) → result ≡ walk (length order.now) (listed nodes.now) order.now 0 root address }
 {

@@ -20,7 +20,7 @@ impl Record {
 }
 
 // The records of a tree while it grows: the first `len` of a lent table.
-// No `Row` of listings, which is another crate and passes over what has no room, where this refuses.
+// No `Row` of listings: that passes over what has no room and promises nothing then, where this refuses and says so.
 #[derive(Drop)]
 pub(crate) struct Draft<'a> {
     pub(crate) table: &'a mut [Record],

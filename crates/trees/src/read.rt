@@ -48,13 +48,15 @@ fn agreed(low: u16, high: u16) -> Option<u16>
 }
 
 // The code at an address of the block that `half` stands for. The block leaves open the last `left` pins.
+// Plain recursion over the finished tree, a form that the project asks for; `code_left` with every bit fixed tells as much.
 fn code_below(table: &[Record], half: Half, left: u32, address: u32) -> u16
     requires { left ≤ 20 }
     ensures { (n : ℕ) (c : ℕ → ℕ) (j p : ℕ) (f : ℕ → ℕ) → Stands n c table.now j p left half f → result ≡ f (address % 2 ^ left) }
 {
     match half {
         Half::Code(code) => code,
-        // 0 where an altered table leads nowhere, as `code_at` promises nothing of such a table.
+        // 0 where an altered table leads nowhere, of which nothing is promised. By `let .. else`: of an option each promise on
+        // the way would speak of `Some`.
         Half::Split(i) => {
             let Some(record) = table.get(i) else {
                 return 0;
