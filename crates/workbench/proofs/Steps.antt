@@ -17,7 +17,6 @@ use Rattle.workbench.specs.declared.sheet.Sheet.{Sheet}
 use Rattle.workbench.specs.Calls.{answer_of, unless_told, Compared}
 use Rattle.workbench.specs.Desks.{Sits}
 use Rattle.workbench.specs.Drawings.{Drew}
-use Rattle.workbench.specs.Telling.{valued}
 
 -- a plain plan with the same order and as many nodes
 pub record Alongside (q p : Plain) : Type 0 where
@@ -44,7 +43,11 @@ unless_alongside None q p a = a
 pub sits_on : (h h' : Header) (sheet : Sheet) (nodes nodes' : List Node) (p q : Plain) → Sits h sheet nodes p → Holds h' nodes' q → Alongside q p → Sits h' sheet nodes' q
 sits_on h h' sheet nodes nodes' p q s o a = record { holds = o; pins = s.pins ∙ ap length (sym a.order); size = s.size ∙ sym a.size }
 
--- the answer made by a function of the value
+-- the answer made of what a plan told, by a function of its value
+abbrev pub valued : {A : Type 0} → (A → Answer) → Result A Fault → Answer
+valued f (Ok x) = f x
+valued f (Err e) = answer.Refused e
+
 pub answer_made : {A : Type 0} (f : A → Answer) (r : Result A Fault) (a : Answer) (P : A → Type 0) → ((x : A) → P x → a ≡ f x) → MatchResult r P (λ e. a ≡ answer.Refused e) → a ≡ valued f r
 answer_made f (Ok x) a P made m = made x m
 answer_made f (Err e) a P made m = m

@@ -44,11 +44,6 @@ abbrev pub unless_told : Option Fault → Plain → Plain → Plain
 unless_told (Some f) q p = p
 unless_told None q p = q
 
--- the first refusal of a draw: of the file, of its layers in their order, of the plan
-abbrev pub draw_told : Handed → Plain → Act → List ℕ → Option Fault
-draw_told h p (script.draw d m name) bs = or_else (map_told m bs) (told p (draw_call d m bs h.nodes h.records h.work))
-draw_told h p _ bs = None
-
 -- What a call leaves, with the bytes of the file that it names.
 abbrev pub moved : Handed → Bench → Act → List ℕ → Bench
 moved h (opened p) (script.draw d m name) bs = opened (unless_told (map_told m bs) (after p (draw_call d m bs h.nodes h.records h.work)) p)

@@ -13,6 +13,7 @@ pub struct Lengths {
     pub work: usize,
 }
 
+// A plan and its sheet are two fields: one struct of both would be generic in the plan's state, for these two uses.
 #[derive(Drop)]
 pub enum Stage {
     Bare,
@@ -29,7 +30,7 @@ pub struct Desk {
 }
 
 impl Stage {
-    // How many pins and nodes the plan has, 0 if there is none.
+    // How many pins and nodes the plan has; 0 of each where there is none, since then no table is looked at.
     pub(crate) fn sheet(&self) -> Sheet
         ensures pins { result.pins ≡ stage_pins self.now }
         ensures nodes { result.nodes ≡ stage_nodes self.now }

@@ -8,8 +8,6 @@ ghost use Rattle.workbench.specs.Drawings.{mount_told, mount_pins, mount_ends, l
 
 use ends::end::End;
 use faults::fault::Fault;
-use files::accept::accept;
-use files::format::Format;
 use plans::open::OpenPlan;
 use readers::bit_file::BitFile;
 use readers::range_file::RangeFile;
@@ -91,15 +89,15 @@ pub(crate) fn draw_map(
 {
     match map {
         Map::Bits { inverted, layers } => {
-            let source = BitFile::over(accept(bytes, Format::Bits)?);
+            let source = BitFile::read(bytes)?;
             draw_bits(plan, source, inverted, layers, line, tables)
         }
         Map::Settings { layers } => {
-            let source = SettingFile::over(accept(bytes, Format::Settings)?);
+            let source = SettingFile::read(bytes)?;
             draw_layered(plan, source, layers, line, tables)
         }
         Map::Ranges { inverted, layers } => {
-            let source = RangeFile::over(accept(bytes, Format::Ranges)?);
+            let source = RangeFile::read(bytes)?;
             draw_bits(plan, source, inverted, layers, line, tables)
         }
     }

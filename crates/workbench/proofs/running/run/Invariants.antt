@@ -7,4 +7,4 @@ use Rattle.workbench.proofs.running.run.Given as goal
 abbrev pub invariant-loop-given : goal.invariant-loop-given
 invariant-loop-given l =
     KeepsLoans l.fn.tables l.tables
-    × ((s : Situation) → Stands l.fn.desk l.fn.tables.nodes.now s → Midway (all_lent l.fn.tables l.fn.buffer) s l.row l.given-index l.desk l.tables.nodes.now)
+    × ((s : Situation) → Stands l.fn.desk l.fn.tables.nodes.now s → Midway (all_lent l.fn.tables l.fn.buffer) s l.row l.fn.buffer l.given-index l.desk l.tables.nodes.now l.buffer)
