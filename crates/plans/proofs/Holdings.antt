@@ -1,8 +1,8 @@
 -- What a held plain plan says of the header and the table.
-use Rattle.std.proofs.Common.{◌≡◌, ℕ, zero, suc, ◌<◌, true, not, List, [], ◌∷◌, length, get_or, Some, None, Option, sym, refl, ap, ◌∙◌, subst, ap₂, inl, inr, arith, length-take}
+use Rattle.std.proofs.Common.{◌≡◌, ℕ, zero, suc, ◌<◌, not, List, [], ◌∷◌, length, get_or, Some, None, Option, sym, refl, ap, ◌∙◌, subst, ap₂, inl, inr, arith, length-take}
 use Rattle.faults.specs.declared.fault.Fault.{Fault}
 use Rattle.faults.specs.declared.fault.Ground.TheVariants.{LineEmpty}
-use Rattle.faults.specs.Refusals.{at, or_else, refuse_if, is_none}
+use Rattle.faults.specs.Refusals.{at, or_else, refuse_if}
 use Rattle.model.specs.declared.Branch.{Branch}
 use Rattle.model.specs.declared.Branch.TheVariants.{End as end, Node as node}
 use Rattle.model.specs.declared.Node.{Node}

@@ -8,7 +8,7 @@ use Rattle.std.specs.Option.{MatchOption, option_map, unwrap_or}
 use Rattle.std.proofs.lemmas.Bool.Decides.{eqb_tells, nat_tests}
 use Rattle.faults.specs.declared.fault.Fault.{Fault}
 use Rattle.faults.specs.declared.fault.Ground.TheVariants.{OrderPin}
-use Rattle.faults.specs.Refusals.{at, refuse_if, or_else}
+use Rattle.faults.specs.Refusals.{at, refuse_if}
 use Rattle.model.specs.Lists.{In, Apart}
 use Rattle.model.specs.Orders.{Order, place_in}
 use Rattle.plans.specs.Orders.{among, misplaced, misplaced_below, OrdersTold}
