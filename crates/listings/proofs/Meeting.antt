@@ -1,8 +1,8 @@
 -- A front that meets one more branch.
-use Rattle.std.proofs.Common.{◌≡◌, ℕ, ◌<◌, ◌≤◌, Bool, true, cond, not, eqb, List, [], ◌∷◌, ◌++◌, length, get_or, set, sym, refl, ap, ◌∙◌, subst, ap₂, inl, inr, arith, length-set}
+use Rattle.std.proofs.Common.{◌≡◌, ℕ, ◌<◌, ◌≤◌, true, cond, not, eqb, List, [], ◌∷◌, ◌++◌, length, get_or, set, sym, refl, ap, ◌∙◌, subst, ap₂, inl, inr, arith, length-set}
 use Rattle.std.proofs.lemmas.List.{append-nil}
 use Rattle.std.proofs.lemmas.Bool.{eq-eqb, not_from_false}
-use Rattle.model.specs.Lists.{In, Apart, keep, without, once}
+use Rattle.model.specs.Lists.{In, Apart, without, once}
 use Rattle.model.proofs.Lists.{in-++, in-++-left, in-++-right, apart-++, pigeonhole, in_cast}
 use Rattle.model.proofs.Onces.{tells_eqb, tells_ne, keep-++, once_apart, keep_all}
 use Rattle.model.proofs.Marks.{marked, in_marked, length_marked}

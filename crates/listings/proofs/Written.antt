@@ -1,9 +1,7 @@
 -- Bytes written one behind the other.
-use Rattle.std.proofs.Common.{◌≡◌, ℕ, ◌+◌, ◌*◌, ◌≤◌, List, [], ◌∷◌, ◌++◌, map, length, take, Some, None, Option, sym, refl, ap, ◌∙◌, mul-suc, arith, length-append, take_all}
+use Rattle.std.proofs.Common.{◌≡◌, ℕ, ◌+◌, ◌*◌, ◌≤◌, List, [], ◌∷◌, ◌++◌, map, length, take, Option, sym, ap, ◌∙◌, arith, length-append, take_all}
 use Rattle.std.proofs.lemmas.List.{append_assoc, length-map, length-take-le}
 use Rattle.model.specs.declared.Branch.{Branch}
-use Rattle.model.specs.declared.Branch.TheVariants.{End as end, Node as node}
-use Rattle.model.specs.declared.Node.{Node}
 use Rattle.model.specs.Lists.{flat, each}
 use Rattle.model.specs.Diagrams.{Table}
 use Rattle.model.specs.Listings.{two_bytes, line_reference, node_bytes, bytes}

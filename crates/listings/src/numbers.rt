@@ -51,7 +51,7 @@ fn invert(order: &[u32], numbers: &mut [u32])
     }
 }
 
-// Numbers the nodes that lines reach, in parts of the work.
+// Numbers the nodes that lines reach, in parts of the work; none where the table is too long or the work too short.
 pub(crate) fn number_nodes<'a>(
     nodes: &[Node],
     work: &'a mut [u32],

@@ -15,7 +15,7 @@ use Rattle.model.specs.Listings.{bytes}
 use Rattle.model.proofs.Lists.{in_held}
 use Rattle.model.proofs.Bytes.{bytes_length, bytes_tell_selections}
 use Rattle.model.proofs.Laying.{listing_of_selections}
-use Rattle.listings.specs.Lists.{ListsLines, ListsBytes}
+use Rattle.listings.specs.Lists.{size_refusal, ListsLines, ListsBytes}
 use Rattle.plans.specs.declared.header.Header.{Header}
 use Rattle.plans.specs.Plain.{Plain, pins, other_tables, work_size}
 use Rattle.plans.specs.Holding.{Holds, ToldValue, order_of}
@@ -39,6 +39,9 @@ as_long R (x ∷ xs) (y ∷ ys) l = ap suc (as_long R xs ys l.1)
 
 tables_right : (n size nodes work : ℕ) → None ≡ other_tables n size nodes work → (nodes ≡ size) × (work_size n size ≤ work)
 tables_right n size nodes work e = (grind (arith, nat_tests), grind (arith, nat_tests))
+
+sizes_clear : (n nodes work : ℕ) → n ≤ 20 → nodes ≤ 4096 → 4 * nodes ≤ work → size_refusal n nodes work ≡ None
+sizes_clear n nodes work few small room = grind (arith, nat_tests)
 
 module _ (h : Header) (nodes : List Node) (work : ℕ) (buffer : List ℕ) (clear : None ≡ other_tables h.pins h.size (length nodes) work) where
   module _ (p : Plain) (o : Holds h nodes p) where
@@ -91,7 +94,7 @@ module _ (h : Header) (nodes : List Node) (work : ℕ) (buffer : List ℕ) (clea
           let k = heads_pins h p o.heads in
           let few = h.sized in
           let n = h.few in
-          w'.lists o.reachable (diagram h nodes p o) (roots_from h nodes p o) (omega arith) (four a t.1) (omega arith)
+          w'.lists (sizes_clear (pins p) (length nodes) work (omega arith) (omega arith) (four a t.1)) o.reachable (diagram h nodes p o) (roots_from h nodes p o)
         where
           four : length nodes ≡ h.size → work_size h.pins h.size ≤ work → 4 * length nodes ≤ work
           four a b =

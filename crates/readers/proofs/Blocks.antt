@@ -5,9 +5,9 @@ use Rattle.files.specs.declared.format.Format.{Format}
 use Rattle.files.specs.Formats.{pins_of, code_of}
 use Rattle.files.specs.Rules.{Obeys}
 use Rattle.files.specs.Meaning.{last_at, meaning}
-use Rattle.readers.specs.Changes.{change_at, change_count, changed}
+use Rattle.readers.specs.Changes.{change_at, change_count}
 use Rattle.readers.proofs.Rising.{uniform, differing}
-use Rattle.readers.proofs.Stepping.{steps_of, changes_mean}
+use Rattle.readers.proofs.Stepping.{changed, steps_of, changes_mean}
 
 module _ {n : ℕ} (f g : ℕ → ℕ) (same : (a : ℕ) → f a ≡ g a) (j p : ℕ) where
   uniform_like : (c : ℕ) → Uniform n f j p c → Uniform n g j p c

@@ -1,11 +1,17 @@
 -- Blocks between two changes, where the addresses of the changes rise.
-use Rattle.std.proofs.Common.{◌≡◌, ℕ, zero, suc, ◌+◌, ◌-◌, ◌*◌, ◌^◌, ◌<◌, ◌≤◌, sym, ap, ◌∙◌, subst, inl, inr, add-one, arith, pow_pos}
+use Rattle.std.proofs.Common.{◌≡◌, ◌≢◌, ℕ, zero, suc, ◌+◌, ◌-◌, ◌*◌, ◌^◌, ◌<◌, ◌≤◌, sym, ap, ◌∙◌, subst, inl, inr, add-one, arith, pow_pos}
 use Rattle.std.proofs.lemmas.Bool.Decides.{leb_tells}
 use Rattle.sources.specs.Blocks.{at, Inside, Uniform, Differing}
 use Rattle.files.specs.Meaning.{last_at}
 use Rattle.files.specs.Theorems.{Last}
 use Rattle.files.proofs.Lasts.{last_told, told_last}
-use Rattle.readers.specs.Changes.{Steps}
+
+-- changes rise from the first one on, and each changes the code
+pub record Steps (address code : ℕ → ℕ) (count : ℕ) : Type 0 where
+  pub start : address 0 ≡ 0
+  pub climbs : (i : ℕ) → i < count → address i ≤ address (i + 1)
+  pub strict : (i : ℕ) → 0 < i → i < count → address i < address (i + 1)
+  pub changing : (i : ℕ) → i < count → code i ≢ code (i + 1)
 
 module _ (address code : ℕ → ℕ) (count : ℕ) (steps : Steps address code count) where
   pub climbing : (i j : ℕ) → i ≤ j → j ≤ count → address i ≤ address j

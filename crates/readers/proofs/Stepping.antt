@@ -6,11 +6,15 @@ use Rattle.files.specs.declared.format.Format.TheVariants.{Bits, Settings, Range
 use Rattle.files.specs.Formats.{count_of, first_of, last_of, code_of}
 use Rattle.files.specs.Rules.{SwitchesObey, RangesObey, EntriesObey}
 use Rattle.files.specs.Meaning.{last_at, covered, meaning}
-use Rattle.readers.specs.Changes.{change_at, change_count, changed, Steps}
+use Rattle.readers.specs.Changes.{change_at, change_count}
 use Rattle.files.specs.Theorems.{Last}
 use Rattle.files.proofs.Lasts.{last_told}
 use Rattle.files.proofs.Covers.{covered_told}
-use Rattle.readers.proofs.Rising.{climbing}
+use Rattle.readers.proofs.Rising.{Steps, climbing}
+
+-- the code after the last change at or below the address
+abbrev pub changed : Format → List ℕ → ℕ → ℕ
+changed k bs a = code_of k bs (last_at (change_at k bs) a (change_count k bs))
 
 switch_steps : (k : Format) (bs : List ℕ) → SwitchesObey k bs → Steps (first_of k bs) (code_of k bs) (count_of k bs)
 switch_steps k bs o = record { start = refl; climbs = λ i h. omega (arith, o.rising i h); strict = λ i l h. o.rising i h; changing = o.changing }

@@ -1,9 +1,8 @@
 -- A map file of any format as a first code and a row of changes, each at an address.
-use Rattle.std.specs.Prelude.{◌≡◌, ℕ, ◌+◌, ◌*◌, ◌/◌, ◌%◌, ◌<◌, ◌≤◌, cond, List, ◌==◌, ◌≢◌}
+use Rattle.std.specs.Prelude.{ℕ, ◌+◌, ◌*◌, ◌/◌, ◌%◌, cond, List, ◌==◌}
 use Rattle.files.specs.declared.format.Format.{Format}
 use Rattle.files.specs.declared.format.Format.TheVariants.{Bits, Settings, Ranges}
-use Rattle.files.specs.Formats.{count_of, first_of, last_of, code_of}
-use Rattle.files.specs.Meaning.{last_at}
+use Rattle.files.specs.Formats.{count_of, first_of, last_of}
 
 -- a range changes the end twice: at its first address, and past its last
 abbrev pub change_count : Format → List ℕ → ℕ
@@ -15,14 +14,3 @@ abbrev pub change_at : Format → List ℕ → ℕ → ℕ
 change_at Bits bs i = first_of Bits bs i
 change_at Settings bs i = first_of Settings bs i
 change_at Ranges bs i = cond (i == 0) 0 (cond (i % 2 == 1) (first_of Ranges bs ((i + 1) / 2)) (last_of bs (i / 2) + 1))
-
--- the code after the last change at or below the address
-abbrev pub changed : Format → List ℕ → ℕ → ℕ
-changed k bs a = code_of k bs (last_at (change_at k bs) a (change_count k bs))
-
--- changes rise from the first one on, and each changes the code
-pub record Steps (address code : ℕ → ℕ) (count : ℕ) : Type 0 where
-  pub start : address 0 ≡ 0
-  pub climbs : (i : ℕ) → i < count → address i ≤ address (i + 1)
-  pub strict : (i : ℕ) → 0 < i → i < count → address i < address (i + 1)
-  pub changing : (i : ℕ) → i < count → code i ≢ code (i + 1)

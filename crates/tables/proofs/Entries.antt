@@ -1,5 +1,5 @@
 -- Entering nodes into the index.
-use Rattle.std.proofs.Common.{◌≡◌, ℕ, ◌+◌, ◌-◌, ◌<◌, ◌≤◌, ◌⊎◌, List, length, get_or, set, sym, refl, ap, ◌∙◌, subst, inl, inr, arith, length-set, get_or-set_other, get_or-set_same}
+use Rattle.std.proofs.Common.{◌≡◌, ℕ, ◌+◌, ◌-◌, ◌<◌, ◌≤◌, ◌⊎◌, List, length, take, get_or, set, sym, refl, ap, ◌∙◌, subst, inl, inr, arith, length-set, get_or-set_other, get_or-set_same}
 use Rattle.std.proofs.lemmas.Bool.{cases_eq, cases_order}
 use Rattle.std.proofs.lemmas.List.{take_all}
 use Rattle.model.specs.declared.Node.{Node}
@@ -8,10 +8,20 @@ use Rattle.tables.specs.Indexes.{probe, nonzero, filled, Leads}
 use Rattle.tables.specs.States.{Live, State}
 use Rattle.tables.specs.declared.indexing.Found.{Found}
 use Rattle.tables.specs.declared.indexing.Found.TheVariants.{At, Vacant, Full}
-use Rattle.tables.specs.Probes.{Missed, Vacancy, Probed, Entered, Entering, Enters, entered_at}
+use Rattle.tables.specs.Probes.{Missed, Vacancy, Probed, Enters, entered_at}
 use Rattle.tables.proofs.Marks.{live_inside, live_set}
 use Rattle.tables.proofs.Counts.{filled_set, filled_le, filled_more, filled_take_le, nonzero_is, none_filled}
 use Rattle.tables.proofs.Rounds.{some_empty}
+
+-- the index leads to the nodes of U and to no other
+pub record Entered (nodes : List Node) (U : ℕ → Type 0) (index : List ℕ) : Type 0 where
+  pub entries : (p : ℕ) → 0 < get_or index p 0 → U (get_or index p 0 - 1)
+  pub found : (i : ℕ) → U i → Leads (length index) index (listed nodes i) i
+
+-- the index leads to the live nodes below c
+pub record Entering (nodes : List Node) (marks index : List ℕ) (c : ℕ) : Type 0 where
+  pub entered : Entered nodes (λ i. (i < c) × Live marks i) index
+  pub counted : filled index ≡ filled (take c marks)
 
 -- one more entry, for the node k in the slot s, at the vacant place p
 module _ (nodes nodes' : List Node) (U U' : ℕ → Type 0) (index : List ℕ) (k : Node) (s p : ℕ) (h : Entered nodes U index) (v : Vacancy nodes index k p)

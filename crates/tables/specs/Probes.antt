@@ -1,10 +1,10 @@
--- Looking up a node in the index, looking for a free slot, and entering nodes one by one.
-use Rattle.std.specs.Prelude.{◌≡◌, ℕ, ◌+◌, ◌-◌, ◌<◌, ◌≤◌, List, length, take, Some, None, Option, ◌≢◌, slice_index, slice_index_or, slice_set}
+-- Looking up a node in the index, looking for a free slot, and entering nodes.
+use Rattle.std.specs.Prelude.{◌≡◌, ℕ, ◌+◌, ◌-◌, ◌<◌, ◌≤◌, List, length, Some, None, Option, ◌≢◌, slice_index, slice_index_or, slice_set}
 use Rattle.model.specs.declared.Node.{Node}
 use Rattle.model.specs.Diagrams.{listed, Ordered, Reduced}
 use Rattle.tables.specs.declared.indexing.Found.{Found}
 use Rattle.tables.specs.declared.indexing.Found.TheVariants.{At, Vacant, Full}
-use Rattle.tables.specs.Indexes.{probe, filled, Leads}
+use Rattle.tables.specs.Indexes.{probe}
 use Rattle.tables.specs.States.{Live, State}
 
 -- the first c probes for k meet entries, and none of k itself
@@ -33,16 +33,6 @@ Probed nodes index k Full = Missed nodes index k (length index)
 abbrev pub Freed : List ℕ → Option ℕ → Type 0
 Freed marks (Some i) = (i < length marks) × (slice_index marks i ≡ 0)
 Freed marks None = (i : ℕ) → i < length marks → Live marks i
-
--- the index leads to the nodes of U and to no other
-pub record Entered (nodes : List Node) (U : ℕ → Type 0) (index : List ℕ) : Type 0 where
-  pub entries : (p : ℕ) → 0 < slice_index index p → U (slice_index index p - 1)
-  pub found : (i : ℕ) → U i → Leads (length index) index (listed nodes i) i
-
--- the index leads to the live nodes below c
-pub record Entering (nodes : List Node) (marks index : List ℕ) (c : ℕ) : Type 0 where
-  pub entered : Entered nodes (λ i. (i < c) × Live marks i) index
-  pub counted : filled index ≡ filled (take c marks)
 
 -- the index with an entry for slot s where a look-up found room
 abbrev pub entered_at : Found → List ℕ → ℕ → List ℕ

@@ -1,6 +1,5 @@
 use Rattle.std.proofs.Common.{ℕ, ◌+◌, List, sym, subst, arith}
-use Rattle.tables.specs.Probes.{Entering}
-use Rattle.tables.proofs.Entries.{enter_none, enter_skip, enter_live, enter_done}
+use Rattle.tables.proofs.Entries.{Entering, enter_none, enter_skip, enter_live, enter_done}
 use Rattle.tables.proofs.indexing.index_marked.Goals as goal
 use Rattle.tables.proofs.indexing.index_marked.Goals.{then-mark-ne0, else-mark-ne0}
 

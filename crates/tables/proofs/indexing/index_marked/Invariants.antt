@@ -1,7 +1,7 @@
 use Rattle.std.proofs.Common.{◌<◌, length}
 use Rattle.model.specs.Diagrams.{listed, Reduced}
 use Rattle.tables.specs.States.{Live}
-use Rattle.tables.specs.Probes.{Entering}
+use Rattle.tables.proofs.Entries.{Entering}
 use Rattle.tables.proofs.indexing.index_marked.Given as goal
 
 abbrev pub invariant-loop-slot : goal.invariant-loop-slot
