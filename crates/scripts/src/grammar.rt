@@ -8,7 +8,7 @@ ghost use Rattle.scripts.specs.Words.{words};
 use crate::digits::number_of;
 use crate::layers::{flipped_at, map_of, mounted_at};
 use crate::mistake::ParseError;
-use crate::names::{Verb, format_at, how_at, level_at};
+use crate::names::{Verb, format_of, how_of, is_high};
 use crate::parts::{address_at, byte_at, end, key_at, length_at, word_at};
 use crate::request::{Call, Layers, Request};
 use crate::word::next_word;
@@ -62,7 +62,8 @@ fn draw_at(heap: Global, text: &[u8]) -> Result<Call, ParseError>
     let (inverted, text) = key_at(text, b"inverted");
     let (flipped, text) = flipped_at(text)?;
     let (mounted, text) = mounted_at(text)?;
-    let (format, text) = format_at(text)?;
+    let (kind, text) = word_at(text)?;
+    let format = format_of(kind)?;
     let (file, text) = word_at(text)?;
     end(text)?;
     let map = map_of(format, inverted, Layers { flipped, mounted })?;
@@ -74,7 +75,8 @@ fn draw_at(heap: Global, text: &[u8]) -> Result<Call, ParseError>
 fn join_at(text: &[u8]) -> Result<Call, ParseError>
     ensures { Gives act_of result (join_call (words text.now)) }
 {
-    let (how, text) = how_at(text)?;
+    let (word, text) = word_at(text)?;
+    let how = how_of(word)?;
     let (left, text) = byte_at(text)?;
     let (right, text) = byte_at(text)?;
     let (line, text) = byte_at(text)?;
@@ -93,7 +95,8 @@ fn strap_at(text: &[u8]) -> Result<Call, ParseError>
 {
     let (from, text) = byte_at(text)?;
     let (pin, text) = byte_at(text)?;
-    let (high, text) = level_at(text)?;
+    let (word, text) = word_at(text)?;
+    let high = is_high(word)?;
     let (line, text) = byte_at(text)?;
     end(text)?;
     Ok(Call::Strap {
