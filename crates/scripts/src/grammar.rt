@@ -6,10 +6,10 @@ ghost use Rattle.scripts.specs.Requests.{act_of, asked};
 ghost use Rattle.scripts.specs.Words.{words};
 
 use crate::digits::number_of;
-use crate::layers::{flipped_at, map_of, mounted_at};
+use crate::layers::{flipped_at, inverted_at, map_of, mounted_at};
 use crate::mistake::ParseError;
 use crate::names::{Verb, format_of, how_of, is_high};
-use crate::parts::{address_at, byte_at, end, key_at, length_at, word_at};
+use crate::parts::{address_at, byte_at, end, length_at, word_at};
 use crate::request::{Call, Layers, Request};
 use crate::word::next_word;
 use std::alloc::Global;
@@ -59,7 +59,7 @@ fn draw_at(heap: Global, text: &[u8]) -> Result<Call, ParseError>
     ensures { Gives act_of result (draw_call (words text.now)) }
 {
     let (line, text) = byte_at(text)?;
-    let (inverted, text) = key_at(text, b"inverted");
+    let (inverted, text) = inverted_at(text);
     let (flipped, text) = flipped_at(text)?;
     let (mounted, text) = mounted_at(text)?;
     let (kind, text) = word_at(text)?;
