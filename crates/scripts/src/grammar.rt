@@ -153,34 +153,33 @@ fn list_at(heap: Global, text: &[u8]) -> Result<Call, ParseError>
 pub(crate) fn call_at(heap: Global, verb: Verb, text: &[u8]) -> Result<Request, ParseError>
     ensures { Gives asked result (call verb (words text.now)) }
 {
-    match verb {
-        Verb::Plan => plan_at(heap, text),
-        Verb::Tables => tables_at(text),
-        Verb::Draw => Ok(Request::Call(draw_at(heap, text)?)),
-        Verb::Join => Ok(Request::Call(join_at(text)?)),
-        Verb::Strap => Ok(Request::Call(strap_at(text)?)),
-        Verb::Erase => {
-            let line = line_only(text)?;
-            Ok(Request::Call(Call::Erase { line }))
-        }
-        Verb::Read => Ok(Request::Call(read_at(text)?)),
-        Verb::Same => Ok(Request::Call(same_at(text)?)),
+    let call = match verb {
+        Verb::Plan => return plan_at(heap, text),
+        Verb::Tables => return tables_at(text),
+        Verb::Draw => draw_at(heap, text)?,
+        Verb::Join => join_at(text)?,
+        Verb::Strap => strap_at(text)?,
+        Verb::Erase => Call::Erase {
+            line: line_only(text)?,
+        },
+        Verb::Read => read_at(text)?,
+        Verb::Same => same_at(text)?,
         Verb::Used => {
             end(text)?;
-            Ok(Request::Call(Call::Used))
+            Call::Used
         }
-        Verb::Count => {
-            let line = line_only(text)?;
-            Ok(Request::Call(Call::Count { line }))
-        }
+        Verb::Count => Call::Count {
+            line: line_only(text)?,
+        },
         Verb::Issue => {
             end(text)?;
-            Ok(Request::Call(Call::Issue))
+            Call::Issue
         }
         Verb::Reopen => {
             end(text)?;
-            Ok(Request::Call(Call::Reopen))
+            Call::Reopen
         }
-        Verb::List => Ok(Request::Call(list_at(heap, text)?)),
-    }
+        Verb::List => list_at(heap, text)?,
+    };
+    Ok(Request::Call(call))
 }
