@@ -53,15 +53,16 @@ fn end_of<E: End>(code: u16) -> Result<E, Mistake>
 fn mount_of<E: End>(mounted: Option<Mount<u16>>) -> Result<Option<Mount<E>>, Mistake>
     ensures { result ≡ mount_of E.End.decoded mounted }
 {
-    let Some(mount) = mounted else {
-        return Ok(None);
-    };
-    let fill = end_of(mount.fill)?;
-    Ok(Some(Mount {
-        pins: mount.pins,
-        base: mount.base,
-        fill,
-    }))
+    mounted
+        .map(|mount| {
+            let fill = end_of(mount.fill)?;
+            Ok(Mount {
+                pins: mount.pins,
+                base: mount.base,
+                fill,
+            })
+        })
+        .transpose()
 }
 
 #[tactic(auto, unfolding(crate::specs::Grammar::layers_of))]
