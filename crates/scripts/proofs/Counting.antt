@@ -7,7 +7,7 @@ use Rattle.scripts.specs.declared.mistake.Mistake.{Mistake}
 use Rattle.scripts.specs.declared.mistake.Mistake.TheVariants.{NotANumber, TooLarge}
 use Rattle.scripts.specs.Numbers.{value}
 
--- what it says of a letter whether it gave a digit
+-- what a letter is, by whether it gave a digit
 pub as_none : {P : Type 0} (o : Option ℕ) (v : ℕ) (m : Mistake) → SomeIff o P v → ok_or o NotANumber ≡ Err m → (NotANumber ≡ m) × (P → ⊥)
 as_none None v m h e = (cc, h)
 as_none (Some d) v m h e = let z : ◌≡◌ {A = ℕ} 0 1 = cc in absurd (omega arith)

@@ -25,7 +25,7 @@ fn pins_of(heap: Global, text: &[u8]) -> Result<Vec<u8>, ParseError>
     ensures { Gives (λ v. v.items) result (pins_of (words text.now)) }
 {
     let mut pins = Vec::new(heap);
-    // By `while let`: an iterator over words would be a type with laws of its own, for this one loop.
+    // Words are taken one by one, as everywhere here; an iterator over them would be a type with laws of its own.
     let mut rest = text;
     while let Some((word, after)) = next_word(rest) {
         let pin = pin_of(word)?;

@@ -6,7 +6,7 @@ use crate::mistake::Mistake;
 use crate::request::How;
 use files::format::Format;
 
-// The calls, by their names.
+// The calls, by their names. An enum between `parse` and `call_at`, since the grammar has the same two steps.
 #[derive(Clone, Copy)]
 pub(crate) enum Verb {
     Plan,

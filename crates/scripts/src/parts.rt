@@ -1,4 +1,6 @@
 // What stands at the front of a text, and the text behind it.
+// Words in, value and rest out, as in specs/Grammar, makes each contract one equation; a cursor behind `&mut` would have
+// two states in each clause.
 ghost use Rattle.std.specs.Prelude.{◌≡◌, ◌≤◌, IfOk, MatchOption, true, false};
 ghost use Rattle.scripts.specs.Grammar.{word_at, number_at, byte_at, address_at, length_at, nothing, key_at};
 ghost use Rattle.scripts.specs.Mistakes.{Gives};
