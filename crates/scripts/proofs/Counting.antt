@@ -1,10 +1,20 @@
 -- One digit more.
-use Rattle.std.proofs.Common.{◌≡◌, ℕ, ◌+◌, ◌*◌, ◌<◌, ◌≤◌, Bool, true, false, List, ◌∷◌, length, drop, get_or, nat_lt, Ok, Err, Result, if◌then◌else◌, sym, refl, ap, ◌∙◌, leb, le-leb, leb-true, arith, drop-cons, add-one}
+use Rattle.std.proofs.Common.{◌≡◌, ℕ, ◌+◌, ◌*◌, ◌<◌, ◌≤◌, Bool, true, false, List, ◌∷◌, length, drop, get_or, nat_lt, Ok, Err, Result, Option, Some, None, if◌then◌else◌, sym, refl, ap, ◌∙◌, leb, le-leb, leb-true, arith, drop-cons, add-one}
 use Rattle.std.proofs.lemmas.List.{drop_all}
 use Rattle.std.specs.Char.{digit_value}
+use Rattle.std.specs.Option.{SomeIff, ok_or}
 use Rattle.scripts.specs.declared.mistake.Mistake.{Mistake}
 use Rattle.scripts.specs.declared.mistake.Mistake.TheVariants.{NotANumber, TooLarge}
 use Rattle.scripts.specs.Numbers.{value}
+
+-- what a letter is, by whether it gave a digit
+pub as_none : {P : Type 0} (o : Option ℕ) (v : ℕ) (m : Mistake) → SomeIff o P v → ok_or o NotANumber ≡ Err m → (NotANumber ≡ m) × (P → ⊥)
+as_none None v m h e = (cc, h)
+as_none (Some d) v m h e = let z : ◌≡◌ {A = ℕ} 0 1 = cc in absurd (omega arith)
+
+pub as_some : {P : Type 0} (o : Option ℕ) (v d : ℕ) → SomeIff o P v → ok_or o NotANumber ≡ Ok d → P × (d ≡ v)
+as_some None v d h e = let z : ◌≡◌ {A = ℕ} 0 1 = cc in absurd (omega arith)
+as_some (Some n) v d h e = let q : n ≡ d = cc in (h.0, sym q ∙ h.1)
 
 -- what a digit of this value makes of a number
 abbrev pub grown : (most n : ℕ) → Result ℕ Mistake

@@ -1,6 +1,7 @@
 -- The first word of a text, and the words behind it.
-use Rattle.std.proofs.Common.{◌≡◌, ℕ, suc, ◌<◌, Bool, true, false, cond, not, ◌||◌, ◌==◌, List, [], ◌∷◌, length, take, drop, Some, None, ◌⊎◌, sym, refl, ap, one-add, ltb, ltb-false, ltb-true, length-drop, ◌-◌, ◌∙◌, subst, inl, inr, arith}
+use Rattle.std.proofs.Common.{◌≡◌, ℕ, suc, ◌≤◌, Bool, true, false, cond, not, ◌||◌, ◌==◌, List, [], ◌∷◌, length, take, drop, Some, None, ◌⊎◌, sym, refl, ap, one-add, ltb, ltb-false, ◌∙◌, subst, inl, inr, arith}
 use Rattle.std.specs.List.{position, position_or_len}
+use Rattle.std.specs.Option.{unwrap_or}
 use Rattle.std.proofs.lemmas.List.{drop_all}
 use Rattle.std.proofs.lemmas.List.Sums.{prefix_len-le-length}
 use Rattle.scripts.specs.Words.{is_blank, is_end, is_apart, lengthen, words}
@@ -132,6 +133,13 @@ no_word text e =
     let n = none_at (ltb (blanks text) (length text)) (blanks text) e in
     trimmed_words text ∙ ap words (drop_all (blanks text) text (omega (arith, ltb-false (blanks text) (length text) n)))
 
+or_length : (b : Bool) (n m : ℕ) → ltb n m ≡ b → n ≤ m → unwrap_or (cond b (Some n) None) m ≡ n
+or_length true n m e h = refl
+or_length false n m e h = let g = ltb-false n m e in omega arith
+
+first_end : (rest : List ℕ) → unwrap_or (position is_end rest) (length rest) ≡ letters rest
+first_end rest = or_length (ltb (letters rest) (length rest)) (letters rest) (length rest) refl (prefix_len-le-length (λ c. not (is_end c)) rest)
+
 module _ (text rest : List ℕ) (i : ℕ) (p : position (λ c. not (is_blank c)) text ≡ Some i) (r : rest ≡ drop i text) where
   same : rest ≡ trimmed text
   same = r ∙ ap (λ k. drop k text) (sym (some_at (ltb (blanks text) (length text)) (blanks text) i p).1)
@@ -142,19 +150,10 @@ module _ (text rest : List ℕ) (i : ℕ) (p : position (λ c. not (is_blank c))
   same_words : words text ≡ words rest
   same_words = trimmed_words text ∙ ap words (sym same)
 
-  pub word_ends : position is_end rest ≡ Some 0 → words text ≡ []
-  word_ends e = same_words ∙ split.nothing (some_at (ltb (letters rest) (length rest)) (letters rest) 0 e).1
+  pub word_ends : unwrap_or (position is_end rest) (length rest) ≡ 0 → words text ≡ []
+  word_ends e = same_words ∙ split.nothing (sym (first_end rest) ∙ e)
 
-  pub word_stands : (k : ℕ) → position is_end rest ≡ Some k → (k ≡ 0 → ⊥) → (front back : List ℕ) → front ≡ take k rest → back ≡ drop k rest → words text ≡ front ∷ words back
+  pub word_stands : (k : ℕ) → k ≡ unwrap_or (position is_end rest) (length rest) → (k ≡ 0 → ⊥) → (front back : List ℕ) → front ≡ take k rest → back ≡ drop k rest → words text ≡ front ∷ words back
   word_stands k e ne front back f b =
-      let n = (some_at (ltb (letters rest) (length rest)) (letters rest) k e).1 in
-      same_words ∙ split.something (λ z. ne (sym n ∙ z)) ∙ ap (λ j. take j rest ∷ words (drop j rest)) n ∙ (rw (f, b) refl)
-
-  pub word_is_all : position is_end rest ≡ None → (front back : List ℕ) → front ≡ take (length rest) rest → back ≡ drop (length rest) rest → words text ≡ front ∷ words back
-  word_is_all e front back f b =
-      let n = ltb-false (letters rest) (length rest) (none_at (ltb (letters rest) (length rest)) (letters rest) e) in
-      let at = some_at (ltb (blanks text) (length text)) (blanks text) i p in
-      let within : blanks text < length text = ltb-true (blanks text) (length text) at.0 in
-      let whole : length rest ≡ length text - i = ap length r ∙ length-drop i text in
-      let all : letters rest ≡ length rest = (let m = prefix_len-le-length (λ c. not (is_end c)) rest in omega arith) in
-      same_words ∙ split.something (λ z. omega (arith, at.1)) ∙ ap (λ j. take j rest ∷ words (drop j rest)) all ∙ (rw (f, b) refl)
+      let n = e ∙ first_end rest in
+      same_words ∙ split.something (λ z. ne (n ∙ z)) ∙ ap (λ j. take j rest ∷ words (drop j rest)) (sym n) ∙ (rw (f, b) refl)

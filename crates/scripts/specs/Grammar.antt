@@ -1,5 +1,6 @@
 -- The calls of a script, word by word. A line of no words asks for nothing; else its first word names the call, and the
--- words behind it are read from left to right. Of several mistakes the first is told.
+-- words behind it are read from left to right. Of several mistakes the first is told; what the words of a draw mean
+-- together (`map_of`) is judged when all of them were read.
 use Rattle.std.specs.Prelude.{ℕ, ◌-◌, ◌^◌, Bool, true, false, List, [], ◌∷◌, Some, None, Ok, Err, Option, Result, codes, bytes_eq, if◌then◌else◌}
 use Rattle.ends.specs.Codes.{bit_of, setting_of}
 use Rattle.files.specs.declared.format.Format.{Format}

@@ -23,9 +23,9 @@ fn value_of(base: u32, most: u64, digits: &[u8]) -> Result<u64, Mistake>
 {
     let mut value = 0;
     for letter in digits {
-        let Some(digit) = char::from(*letter).to_digit(base) else {
-            return Err(Mistake::NotANumber);
-        };
+        let digit = char::from(*letter)
+            .to_digit(base)
+            .ok_or(Mistake::NotANumber)?;
         value = with_digit(value, base, digit, most)?;
     }
     Ok(value)

@@ -6,10 +6,10 @@ ghost use Rattle.scripts.specs.Requests.{act_of, asked};
 ghost use Rattle.scripts.specs.Words.{words};
 
 use crate::digits::number_of;
-use crate::layers::{flipped_at, map_of, mounted_at};
+use crate::layers::{flipped_at, inverted_at, map_of, mounted_at};
 use crate::mistake::ParseError;
-use crate::names::{Verb, format_at, how_at, level_at};
-use crate::parts::{address_at, byte_at, end, key_at, length_at, word_at};
+use crate::names::{Verb, format_of, how_of, is_high};
+use crate::parts::{address_at, byte_at, end, length_at, word_at};
 use crate::request::{Call, Layers, Request};
 use crate::word::next_word;
 use std::alloc::Global;
@@ -25,7 +25,7 @@ fn pins_of(heap: Global, text: &[u8]) -> Result<Vec<u8>, ParseError>
     ensures { Gives (λ v. v.items) result (pins_of (words text.now)) }
 {
     let mut pins = Vec::new(heap);
-    // By `while let`: an iterator over words would be a type with laws of its own, for this one loop.
+    // Words are taken one by one, as everywhere here; an iterator over them would be a type with laws of its own.
     let mut rest = text;
     while let Some((word, after)) = next_word(rest) {
         let pin = pin_of(word)?;
@@ -59,10 +59,11 @@ fn draw_at(heap: Global, text: &[u8]) -> Result<Call, ParseError>
     ensures { Gives act_of result (draw_call (words text.now)) }
 {
     let (line, text) = byte_at(text)?;
-    let (inverted, text) = key_at(text, b"inverted");
+    let (inverted, text) = inverted_at(text);
     let (flipped, text) = flipped_at(text)?;
     let (mounted, text) = mounted_at(text)?;
-    let (format, text) = format_at(text)?;
+    let (kind, text) = word_at(text)?;
+    let format = format_of(kind)?;
     let (file, text) = word_at(text)?;
     end(text)?;
     let map = map_of(format, inverted, Layers { flipped, mounted })?;
@@ -74,7 +75,8 @@ fn draw_at(heap: Global, text: &[u8]) -> Result<Call, ParseError>
 fn join_at(text: &[u8]) -> Result<Call, ParseError>
     ensures { Gives act_of result (join_call (words text.now)) }
 {
-    let (how, text) = how_at(text)?;
+    let (word, text) = word_at(text)?;
+    let how = how_of(word)?;
     let (left, text) = byte_at(text)?;
     let (right, text) = byte_at(text)?;
     let (line, text) = byte_at(text)?;
@@ -93,7 +95,8 @@ fn strap_at(text: &[u8]) -> Result<Call, ParseError>
 {
     let (from, text) = byte_at(text)?;
     let (pin, text) = byte_at(text)?;
-    let (high, text) = level_at(text)?;
+    let (word, text) = word_at(text)?;
+    let high = is_high(word)?;
     let (line, text) = byte_at(text)?;
     end(text)?;
     Ok(Call::Strap {
@@ -150,34 +153,33 @@ fn list_at(heap: Global, text: &[u8]) -> Result<Call, ParseError>
 pub(crate) fn call_at(heap: Global, verb: Verb, text: &[u8]) -> Result<Request, ParseError>
     ensures { Gives asked result (call verb (words text.now)) }
 {
-    match verb {
-        Verb::Plan => plan_at(heap, text),
-        Verb::Tables => tables_at(text),
-        Verb::Draw => Ok(Request::Call(draw_at(heap, text)?)),
-        Verb::Join => Ok(Request::Call(join_at(text)?)),
-        Verb::Strap => Ok(Request::Call(strap_at(text)?)),
-        Verb::Erase => {
-            let line = line_only(text)?;
-            Ok(Request::Call(Call::Erase { line }))
-        }
-        Verb::Read => Ok(Request::Call(read_at(text)?)),
-        Verb::Same => Ok(Request::Call(same_at(text)?)),
+    let call = match verb {
+        Verb::Plan => return plan_at(heap, text),
+        Verb::Tables => return tables_at(text),
+        Verb::Draw => draw_at(heap, text)?,
+        Verb::Join => join_at(text)?,
+        Verb::Strap => strap_at(text)?,
+        Verb::Erase => Call::Erase {
+            line: line_only(text)?,
+        },
+        Verb::Read => read_at(text)?,
+        Verb::Same => same_at(text)?,
         Verb::Used => {
             end(text)?;
-            Ok(Request::Call(Call::Used))
+            Call::Used
         }
-        Verb::Count => {
-            let line = line_only(text)?;
-            Ok(Request::Call(Call::Count { line }))
-        }
+        Verb::Count => Call::Count {
+            line: line_only(text)?,
+        },
         Verb::Issue => {
             end(text)?;
-            Ok(Request::Call(Call::Issue))
+            Call::Issue
         }
         Verb::Reopen => {
             end(text)?;
-            Ok(Request::Call(Call::Reopen))
+            Call::Reopen
         }
-        Verb::List => Ok(Request::Call(list_at(heap, text)?)),
-    }
+        Verb::List => list_at(heap, text)?,
+    };
+    Ok(Request::Call(call))
 }

@@ -1,24 +1,32 @@
-// The layers over a map file, first with the fill as a number.
-ghost use Rattle.std.specs.Prelude.{◌≡◌};
-ghost use Rattle.scripts.specs.Grammar.{flipped_at, mounted_at, end_of, mount_of, layers_of, map_of};
+// How a map file is taken: inverted or not, and with which layers over it, first with the fill as a number.
+ghost use Rattle.std.specs.Prelude.{◌≡◌, codes};
+ghost use Rattle.scripts.specs.Grammar.{key_at, flipped_at, mounted_at, end_of, mount_of, layers_of, map_of};
 ghost use Rattle.scripts.specs.Mistakes.{Gives};
 ghost use Rattle.scripts.specs.Words.{words};
 
 use crate::mistake::{Mistake, ParseError};
-use crate::parts::{address_at, code_at, key_at};
+use crate::parts::{address_at, code_at, strip_word};
 use crate::request::{Layers, Map, Mount};
 use ends::end::End;
 use ends::setting::Setting;
 use files::format::Format;
 
+pub(crate) fn inverted_at(text: &[u8]) -> (bool, &[u8])
+    ensures { (result.0, words result.1.now) ≡ key_at (codes "inverted") (words text.now) }
+{
+    match strip_word(text, b"inverted") {
+        Some(text) => (true, text),
+        None => (false, text),
+    }
+}
+
 #[tactic(auto, unfolding(crate::specs::Grammar::flipped_at))]
 pub(crate) fn flipped_at(text: &[u8]) -> Result<(Option<u32>, &[u8]), ParseError>
     ensures { Gives (λ x. (x.0, words x.1.now)) result (flipped_at (words text.now)) }
 {
-    let (is_flipped, text) = key_at(text, b"flipped");
-    if !is_flipped {
+    let Some(text) = strip_word(text, b"flipped") else {
         return Ok((None, text));
-    }
+    };
     let (mask, text) = address_at(text)?;
     Ok((Some(mask), text))
 }
@@ -27,10 +35,9 @@ pub(crate) fn flipped_at(text: &[u8]) -> Result<(Option<u32>, &[u8]), ParseError
 pub(crate) fn mounted_at(text: &[u8]) -> Result<(Option<Mount<u16>>, &[u8]), ParseError>
     ensures { Gives (λ x. (x.0, words x.1.now)) result (mounted_at (words text.now)) }
 {
-    let (is_mounted, text) = key_at(text, b"mounted");
-    if !is_mounted {
+    let Some(text) = strip_word(text, b"mounted") else {
         return Ok((None, text));
-    }
+    };
     let (pins, text) = address_at(text)?;
     let (base, text) = address_at(text)?;
     let (fill, text) = code_at(text)?;
@@ -46,15 +53,16 @@ fn end_of<E: End>(code: u16) -> Result<E, Mistake>
 fn mount_of<E: End>(mounted: Option<Mount<u16>>) -> Result<Option<Mount<E>>, Mistake>
     ensures { result ≡ mount_of E.End.decoded mounted }
 {
-    let Some(mount) = mounted else {
-        return Ok(None);
-    };
-    let fill = end_of(mount.fill)?;
-    Ok(Some(Mount {
-        pins: mount.pins,
-        base: mount.base,
-        fill,
-    }))
+    mounted
+        .map(|mount| {
+            let fill = end_of(mount.fill)?;
+            Ok(Mount {
+                pins: mount.pins,
+                base: mount.base,
+                fill,
+            })
+        })
+        .transpose()
 }
 
 #[tactic(auto, unfolding(crate::specs::Grammar::layers_of))]

@@ -5,7 +5,8 @@ ghost use Rattle.scripts.specs.declared.mistake.ParseError.TheVariants as error;
 use std::alloc::{AllocError, AllocFailed};
 use std::fmt;
 
-// What is wrong with a line: the first fault from left to right.
+// What is wrong with a line. Its words are judged from left to right, and the first fault is told. What they mean
+// together, a fill that is no end of the kind or chip settings inverted, is judged last, when the whole line was read.
 #[derive(Clone, Copy, PartialEq, Eq, Debug)]
 pub enum Mistake {
     UnknownCall,

@@ -1,15 +1,12 @@
 // Words that name something.
 ghost use Rattle.std.specs.Prelude.{◌≡◌};
-ghost use Rattle.scripts.specs.Grammar.{verb_of, how_of, is_high, format_of, named_at};
-ghost use Rattle.scripts.specs.Mistakes.{Gives};
-ghost use Rattle.scripts.specs.Words.{words};
+ghost use Rattle.scripts.specs.Grammar.{verb_of, how_of, is_high, format_of};
 
-use crate::mistake::{Mistake, ParseError};
-use crate::parts::word_at;
+use crate::mistake::Mistake;
 use crate::request::How;
 use files::format::Format;
 
-// The calls, by their names.
+// The calls, by their names. An enum between `parse` and `call_at`, since the grammar has the same two steps.
 #[derive(Clone, Copy)]
 pub(crate) enum Verb {
     Plan,
@@ -50,7 +47,7 @@ pub(crate) fn verb_of(word: &[u8]) -> Result<Verb, Mistake>
 }
 
 #[tactic(auto, unfolding(crate::specs::Grammar::how_of))]
-fn how_of(word: &[u8]) -> Result<How, Mistake>
+pub(crate) fn how_of(word: &[u8]) -> Result<How, Mistake>
     ensures { result ≡ how_of word.now }
 {
     match word {
@@ -63,7 +60,7 @@ fn how_of(word: &[u8]) -> Result<How, Mistake>
 }
 
 #[tactic(auto, unfolding(crate::specs::Grammar::is_high))]
-fn is_high(word: &[u8]) -> Result<bool, Mistake>
+pub(crate) fn is_high(word: &[u8]) -> Result<bool, Mistake>
     ensures { result ≡ is_high word.now }
 {
     match word {
@@ -74,7 +71,7 @@ fn is_high(word: &[u8]) -> Result<bool, Mistake>
 }
 
 #[tactic(auto, unfolding(crate::specs::Grammar::format_of))]
-fn format_of(word: &[u8]) -> Result<Format, Mistake>
+pub(crate) fn format_of(word: &[u8]) -> Result<Format, Mistake>
     ensures { result ≡ format_of word.now }
 {
     match word {
@@ -83,25 +80,4 @@ fn format_of(word: &[u8]) -> Result<Format, Mistake>
         b"ranges" => Ok(Format::Ranges),
         _ => Err(Mistake::UnknownKind),
     }
-}
-
-pub(crate) fn how_at(text: &[u8]) -> Result<(How, &[u8]), ParseError>
-    ensures { Gives (λ x. (x.0, words x.1.now)) result (named_at how_of (words text.now)) }
-{
-    let (word, rest) = word_at(text)?;
-    Ok((how_of(word)?, rest))
-}
-
-pub(crate) fn level_at(text: &[u8]) -> Result<(bool, &[u8]), ParseError>
-    ensures { Gives (λ x. (x.0, words x.1.now)) result (named_at is_high (words text.now)) }
-{
-    let (word, rest) = word_at(text)?;
-    Ok((is_high(word)?, rest))
-}
-
-pub(crate) fn format_at(text: &[u8]) -> Result<(Format, &[u8]), ParseError>
-    ensures { Gives (λ x. (x.0, words x.1.now)) result (named_at format_of (words text.now)) }
-{
-    let (word, rest) = word_at(text)?;
-    Ok((format_of(word)?, rest))
 }

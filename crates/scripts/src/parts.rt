@@ -1,5 +1,7 @@
 // What stands at the front of a text, and the text behind it.
-ghost use Rattle.std.specs.Prelude.{◌≡◌, ◌≤◌, IfOk};
+// Words in, value and rest out, as in specs/Grammar, makes each contract one equation; a cursor behind `&mut` would have
+// two states in each clause.
+ghost use Rattle.std.specs.Prelude.{◌≡◌, ◌≤◌, IfOk, MatchOption, true, false};
 ghost use Rattle.scripts.specs.Grammar.{word_at, number_at, byte_at, address_at, length_at, nothing, key_at};
 ghost use Rattle.scripts.specs.Mistakes.{Gives};
 ghost use Rattle.scripts.specs.Words.{words};
@@ -62,13 +64,12 @@ pub(crate) fn end(text: &[u8]) -> Result<(), ParseError>
     Ok(())
 }
 
-// Whether a word stands in front, which is then taken off.
-pub(crate) fn key_at<'a>(text: &'a [u8], key: &[u8]) -> (bool, &'a [u8])
-    ensures value { result.0 ≡ (key_at key.now (words text.now)).0 }
-    ensures rest { words result.1.now ≡ (key_at key.now (words text.now)).1 }
+// What stands behind a word, if that stands in front.
+pub(crate) fn strip_word<'a>(text: &'a [u8], key: &[u8]) -> Option<&'a [u8]>
+    ensures { MatchOption result (key_at key.now (words text.now) ≡ (false, words text.now)) (λ rest. key_at key.now (words text.now) ≡ (true, words rest.now)) }
 {
     match next_word(text) {
-        Some((word, rest)) if word == key => (true, rest),
-        _ => (false, text),
+        Some((word, rest)) if word == key => Some(rest),
+        _ => None,
     }
 }

@@ -37,9 +37,8 @@ pub(crate) fn next_word(text: &[u8]) -> Option<(&[u8], &[u8])>
 {
     let start = start_of(text)?;
     let (_, text) = text.split_at(start);
-    match end_of(text) {
-        Some(0) => None,
-        Some(len) => Some(text.split_at(len)),
-        None => Some(text.split_at(text.len())),
+    match end_of(text).unwrap_or(text.len()) {
+        0 => None,
+        len => Some(text.split_at(len)),
     }
 }

@@ -3,6 +3,7 @@
 mod bench;
 mod help;
 mod hex;
+mod line_error;
 mod script;
 
 use crate::help::{HELP, USAGE};

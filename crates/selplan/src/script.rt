@@ -1,128 +1,77 @@
 use crate::bench::Bench;
 use crate::hex::print_hex;
-use rows::lent::Tables;
-use scripts::mistake::ParseError;
+use crate::line_error::LineError;
 use scripts::parsing::parse;
 use scripts::request::{Call, Request};
-use std::alloc::AllocError;
+use std::alloc::Global;
 use std::io::ErrorKind;
 use std::process::ExitCode;
-use std::{fmt, fs, io, str};
+use std::{fs, io, str};
 use workbench::answer::Answer;
-use workbench::carrying::carry_out;
 
-// Whether a line was answered, and not an error.
-type Answered = io::Result<bool>;
-
-fn print_error<T: fmt::Display>(rt: &HostRuntime, number: usize, what: &T) -> Answered {
-    println!(rt; "ERROR line {number}: {what}")?;
-    Ok(false)
+fn name_of(heap: Global, file: &[u8]) -> Result<String, LineError> {
+    match str::from_utf8(file) {
+        Ok(name) => Ok(String::from_str(heap, name)?),
+        Err(_) => Err(LineError::NameNoText),
+    }
 }
 
-// A file that cannot be used. Want of memory is no error of the line, and ends the program.
-fn print_file_error(
-    rt: &HostRuntime,
-    number: usize,
-    name: &str,
-    what: &str,
-    error: io::Error,
-) -> Answered {
+// What went wrong with a file, if not that memory ran out.
+fn file_error(error: io::Error, told: LineError) -> LineError {
     if error.kind() == ErrorKind::OutOfMemory {
-        return Err(error);
+        return LineError::Memory(error);
     }
-    println!(rt; "ERROR line {number}: {name} cannot be {what}")?;
-    Ok(false)
+    told
 }
 
-// Writes a listing into a file.
-fn write_listing(
-    rt: &HostRuntime,
-    number: usize,
+fn read_file(rt: &HostRuntime, file: &[u8]) -> Result<Vec<u8>, LineError> {
+    let name = name_of(rt.alloc(), file)?;
+    fs::read(rt, name.as_str()).map_err(|error| file_error(error, LineError::Unreadable(name)))
+}
+
+fn write_file(rt: &HostRuntime, file: &[u8], bytes: &[u8]) -> Result<(), LineError> {
+    let name = name_of(rt.alloc(), file)?;
+    fs::write(rt, name.as_str(), bytes).map_err(|error| file_error(
+        error,
+        LineError::Unwritable(name),
+    ))
+}
+
+// The bytes of the file that a request names to be read.
+fn bytes_for(rt: &HostRuntime, request: &Request) -> Result<Vec<u8>, LineError> {
+    match request {
+        Request::Call(Call::Draw { file, .. }) => read_file(rt, file),
+        _ => Ok(Vec::new(rt.alloc())),
+    }
+}
+
+// What is printed for a line: its answer, and the bytes of a listing that goes into no file.
+#[derive(Clone, Copy)]
+struct Reply<'a> {
     answer: Answer,
-    listing: &[u8],
-    file: &[u8],
-) -> Answered {
-    let Ok(name) = str::from_utf8(file) else {
-        return print_error(rt, number, &"the name of the file is no text");
-    };
-    match fs::write(rt, name, listing) {
-        Ok(()) => {
-            println!(rt; "{answer}")?;
-            Ok(true)
-        }
-        Err(error) => print_file_error(rt, number, name, "written", error),
-    }
+    listing: &'a [u8],
 }
 
-// Carries out a request, with the bytes of the file that it names, and prints what is answered.
-fn answer(
+// Carries out a line. One of no words has no reply.
+fn run_line<'a>(
     rt: &HostRuntime,
-    bench: &mut Bench,
-    number: usize,
-    request: &Request,
-    bytes: &[u8],
-) -> Answered {
-    let mut tables = Tables {
-        nodes: &mut bench.nodes,
-        records: &mut bench.records,
-        work: &mut bench.work,
+    bench: &'a mut Bench,
+    line: &[u8],
+) -> Result<Option<Reply<'a>>, LineError> {
+    let Some(request) = parse(rt.alloc(), line)? else {
+        return Ok(None);
     };
-    let told = carry_out(
-        &mut bench.desk,
-        request,
-        bytes,
-        &mut tables,
-        &mut bench.buffer,
-    );
-    match (told, request) {
-        (Err(why), _) => print_error(rt, number, &why),
-        (Ok(Answer::Listing(len)), Request::Call(Call::List { file })) => {
-            let listing = &bench.buffer[..len.min(bench.buffer.len())];
-            match file {
-                Some(file) => write_listing(rt, number, Answer::Listing(len), listing, file),
-                None => {
-                    println!(rt; "LISTING {len} BYTES")?;
-                    print_hex(rt, listing)?;
-                    Ok(true)
-                }
-            }
+    let bytes = bytes_for(rt, &request)?;
+    let answer = bench.carry_out(&request, &bytes)?;
+    let listing = match (answer, &request) {
+        (Answer::Listing(len), Request::Call(Call::List { file: Some(file) })) => {
+            write_file(rt, file, bench.listing(len))?;
+            &[]
         }
-        (Ok(answer), _) => {
-            println!(rt; "{answer}")?;
-            Ok(true)
-        }
-    }
-}
-
-// A request for which a file is read.
-fn answer_file(
-    rt: &HostRuntime,
-    bench: &mut Bench,
-    number: usize,
-    request: &Request,
-    file: &[u8],
-) -> Answered {
-    let Ok(name) = str::from_utf8(file) else {
-        return print_error(rt, number, &"the name of the file is no text");
+        (Answer::Listing(len), _) => bench.listing(len),
+        _ => &[],
     };
-    match fs::read(rt, name) {
-        Ok(bytes) => answer(rt, bench, number, request, &bytes),
-        Err(error) => print_file_error(rt, number, name, "read", error),
-    }
-}
-
-fn run_line(rt: &HostRuntime, bench: &mut Bench, number: usize, line: &[u8]) -> Answered {
-    match parse(rt.alloc(), line) {
-        Ok(None) => Ok(true),
-        Ok(Some(request)) => match &request {
-            Request::Call(Call::Draw { file, .. }) => {
-                answer_file(rt, bench, number, &request, file)
-            }
-            _ => answer(rt, bench, number, &request, &[]),
-        },
-        Err(ParseError::Mistake(mistake)) => print_error(rt, number, &mistake),
-        Err(ParseError::Memory) => Err(AllocError.into()),
-    }
+    Ok(Some(Reply { answer, listing }))
 }
 
 // Carries out each line of a script. Ends with an error status where one was an error.
@@ -130,8 +79,17 @@ pub(crate) fn run_script(rt: &HostRuntime, script: &[u8]) -> io::Result<ExitCode
     let mut bench = Bench::new(rt.alloc())?;
     let mut code = ExitCode::SUCCESS;
     for (i, line) in script.split(|letter| *letter == b'\n').enumerate() {
-        if !run_line(rt, &mut bench, i + 1, line)? {
-            code = ExitCode::FAILURE;
+        match run_line(rt, &mut bench, line) {
+            Ok(None) => {}
+            Ok(Some(Reply { answer, listing })) => {
+                println!(rt; "{answer}")?;
+                print_hex(rt, listing)?;
+            }
+            Err(LineError::Memory(error)) => return Err(error),
+            Err(error) => {
+                println!(rt; "ERROR line {}: {error}", i + 1)?;
+                code = ExitCode::FAILURE;
+            }
         }
     }
     Ok(code)
