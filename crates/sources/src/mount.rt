@@ -35,12 +35,9 @@ impl<S: Source + Drop> Mounted<S> {
 fn with_fill<E: End>(answer: Answer<E>, fill: E) -> Answer<E>
     ensures { result ≡ with_fill E.End.code answer fill }
 {
-    // With `answer => answer` for the last arms the borrow checker gives up: the first arm takes `answer` apart.
-    match answer {
+    match &answer {
         Answer::All(end) if end.encode() != fill.encode() => Answer::Mixed,
-        Answer::All(end) => Answer::All(end),
-        Answer::Mixed => Answer::Mixed,
-        Answer::Outside => Answer::Outside,
+        _ => answer,
     }
 }
 
