@@ -5,12 +5,12 @@ use Rattle.faults.specs.Refusals.{or_else}
 use Rattle.model.specs.declared.Node.{Node}
 use Rattle.model.specs.Selections.{Alike}
 use Rattle.plans.specs.Plain as plain
-use Rattle.plans.specs.Plain.{Plain, Call, pins, line, used_of, empty_plan, make_told, told, after, read_told, same_told, count_told, code_of, count_line, work_size}
+use Rattle.plans.specs.Plain.{Plain, pins, line, used_of, told, after, read_told, same_told, count_told, code_of, count_line}
 use Rattle.plans.specs.Listing.{listing_of, list_told}
 use Rattle.rows.specs.declared.lent.Tables.{Tables}
 use Rattle.rows.specs.Laws.{written}
 use Rattle.scripts.specs.Requests as script
-use Rattle.scripts.specs.Requests.{Act, Asked}
+use Rattle.scripts.specs.Requests.{Act}
 use Rattle.workbench.specs.declared.answer.Answer.{Answer}
 use Rattle.workbench.specs.declared.answer.Answer.TheVariants as answer
 use Rattle.workbench.specs.declared.answer.Misplaced.{Misplaced}
