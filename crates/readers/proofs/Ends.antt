@@ -1,5 +1,5 @@
 -- Ends of an accepted file differ where its codes do.
-use Rattle.std.proofs.Common.{◌≡◌, ℕ, ◌<◌, Bool, true, false, cond, List, refl, sym, ap, subst, ◌∙◌, arith}
+use Rattle.std.proofs.Common.{◌≡◌, ℕ, ◌<◌, Bool, true, false, cond, List, Some, Option, refl, sym, ap, subst, ◌∙◌, arith}
 use Rattle.sources.specs.declared.source.Answer.{Answer}
 use Rattle.sources.specs.declared.source.Answer.TheVariants.{All, Mixed, Outside}
 use Rattle.sources.specs.Blocks.{at, Differing, Says}
@@ -19,6 +19,11 @@ code_below Ranges bs o a = below (covered bs a (count_of Ranges bs))
     below : (b : Bool) → cond b 1 0 < 2
     below true = omega arith
     below false = omega arith
+
+-- the code of an end is the one that stands for it in the file
+pub own_code : {E : Type 0} (code : E → ℕ) (decoded : ℕ → Option E) → ((n : ℕ) (e : E) → decoded n ≡ Some e → code e ≡ n) → (k : Format) (bs : List ℕ) → Obeys k bs → (end : ℕ → E) (selection : ℕ → E)
+    → ((a : ℕ) → selection a ≡ end (meaning k bs a)) → ((c : ℕ) → c < code_limit k → decoded c ≡ Some (end c)) → (a : ℕ) → code (selection a) ≡ meaning k bs a
+own_code code decoded only k bs o end selection means coded a = only (meaning k bs a) (selection a) (coded (meaning k bs a) (code_below k bs o a) ∙ ap Some (sym (means a)))
 
 module _ {E : Type 0} (k : Format) (bs : List ℕ) (o : Obeys k bs) (end : ℕ → E) (selection : ℕ → E)
     (means : (a : ℕ) → selection a ≡ end (meaning k bs a)) (apart : (c d : ℕ) → c < code_limit k → d < code_limit k → end c ≡ end d → c ≡ d) where

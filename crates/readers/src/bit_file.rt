@@ -2,6 +2,7 @@ ghost use Rattle.std.specs.Prelude.{◌≡◌, nat_eq, refl};
 ghost use Rattle.std.proofs.Common.{rules};
 ghost use Rattle.readers.specs.Selections.{bit_at};
 ghost use Rattle.files.specs.declared.format.Format.TheVariants as formats;
+ghost use Rattle.readers.specs.Apart.{bit_coded};
 
 use crate::kind::{Kind, Switched};
 use crate::map_file::MapFile;
@@ -28,6 +29,8 @@ impl Kind for Bits {
     }
 
     ghost means = { λ bs a. refl };
+
+    ghost coded = { bit_coded };
 
     ghost apart = { Prim.search rules };
 }

@@ -1,4 +1,4 @@
-ghost use Rattle.std.specs.Prelude.{◌≡◌, ℕ, ◌<◌, List};
+ghost use Rattle.std.specs.Prelude.{◌≡◌, ℕ, ◌<◌, List, Some};
 ghost use Rattle.files.specs.Formats.{code_limit};
 ghost use Rattle.files.specs.Meaning.{meaning};
 ghost use Rattle.files.specs.declared.format.Format.{Format};
@@ -24,6 +24,9 @@ pub trait Kind {
         ensures { result ≡ end code };
 
     ghost means: { (bs : List ℕ) (a : ℕ) → selection bs a ≡ end (meaning format bs a) };
+
+    // A code of the format is the code of the end that it stands for.
+    ghost coded: { (c : ℕ) → c < code_limit format → Self.Of.End.decoded c ≡ Some (end c) };
 
     // Two codes of the format are not one end.
     ghost apart: { (c d : ℕ) → c < code_limit format → d < code_limit format → end c ≡ end d → c ≡ d };

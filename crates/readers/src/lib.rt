@@ -3,6 +3,7 @@
 pub mod bit_file;
 pub mod entry;
 pub mod kind;
+pub mod laws;
 mod lookup;
 pub mod map_file;
 pub mod range_file;

@@ -3,7 +3,7 @@ ghost use Rattle.std.proofs.Common.{rules};
 ghost use Rattle.files.specs.Formats.{count_of};
 ghost use Rattle.readers.specs.Entries.{range_of};
 ghost use Rattle.readers.specs.Selections.{inside_at};
-ghost use Rattle.readers.specs.Apart.{inside_means};
+ghost use Rattle.readers.specs.Apart.{bit_coded, inside_means};
 ghost use Rattle.files.specs.declared.format.Format.TheVariants as formats;
 
 use crate::entry::Range;
@@ -33,6 +33,8 @@ impl Kind for Ranges {
     }
 
     ghost means = { inside_means };
+
+    ghost coded = { bit_coded };
 
     ghost apart = { Prim.search rules };
 }

@@ -1,7 +1,7 @@
 ghost use Rattle.std.specs.Prelude.{◌≡◌, refl};
 ghost use Rattle.ends.specs.Codes.{setting_at};
 ghost use Rattle.readers.specs.Selections.{chip_at};
-ghost use Rattle.readers.specs.Apart.{settings_apart};
+ghost use Rattle.readers.specs.Apart.{setting_coded, settings_apart};
 ghost use Rattle.files.specs.declared.format.Format.TheVariants as formats;
 
 use crate::kind::{Kind, Switched};
@@ -34,6 +34,8 @@ impl Kind for Settings {
     }
 
     ghost means = { λ bs a. refl };
+
+    ghost coded = { setting_coded };
 
     ghost apart = { settings_apart };
 }
