@@ -1,4 +1,5 @@
-// Calls made on a plan. The tables are three parameters, as in the calls of a plan.
+// Calls made on a plan. The tables are three parameters: of a `Tables` made of parts of the bench's the borrow checker does
+// not know enough.
 use crate::call::{Call, Told};
 use crate::drawing::{Drawing, Map};
 use faults::fault::Fault;

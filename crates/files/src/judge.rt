@@ -44,7 +44,7 @@ impl<'a> Fields<'a> {
             return Err(Ground::Kind.at(KIND_AT));
         }
         let pins = self.pin_count();
-        if pins < 1 || pins > 20 {
+        if !(1..=20).contains(&pins) {
             return Err(Ground::Pins.at(layout.pins_at));
         }
         let count = self.entry_count();

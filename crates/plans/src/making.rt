@@ -16,12 +16,12 @@ impl OpenPlan {
         ensures { MatchResult result (λ plan. Made order.now nodes.now plan.header) (λ f. make_told order.now (length nodes.now) ≡ Some f) }
     {
         let pins = order.len();
-        if pins < 1 || pins > MOST_PINS {
+        if !(1..=MOST_PINS).contains(&pins) {
             return Err(Ground::OrderLength.at(pins));
         }
         check_order(order)?;
         let size = nodes.len();
-        if size < 1 || size > MOST_NODES {
+        if !(1..=MOST_NODES).contains(&size) {
             return Err(Ground::NodeTable.at(size));
         }
         let header = Header {

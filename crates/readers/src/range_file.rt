@@ -53,7 +53,7 @@ impl<'a> MapFile<'a, Ranges> {
     pub fn range(&self, i: u16) -> Option<Range>
         ensures { result ≡ range_of self.now.bytes.now i }
     {
-        if i < 1 || i > self.ranges() {
+        if !(1..=self.ranges()).contains(&i) {
             return None;
         }
         Some(Range {

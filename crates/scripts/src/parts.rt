@@ -26,6 +26,7 @@ fn number_at(text: &[u8], most: u64) -> Result<(u64, &[u8]), ParseError>
     Ok((n, rest))
 }
 
+// A number of each size, by a function of its own: a trait with a greatest would need an impl for each.
 pub(crate) fn byte_at(text: &[u8]) -> Result<(u8, &[u8]), ParseError>
     ensures { Gives (λ x. (x.0, words x.1.now)) result (byte_at (words text.now)) }
 {
