@@ -1,10 +1,9 @@
 -- The plain plans of the chains of calls, each call as it is told.
-use Rattle.std.proofs.Common.{◌≡◌, ℕ, true, false, cond, List, [], ◌∷◌, length, Some, None, Ok, Result, sym, refl, ap, subst}
+use Rattle.std.proofs.Common.{◌≡◌, ℕ, false, cond, List, [], ◌∷◌, length, Some, None, Ok, Result, sym, refl, ap, subst}
 use Rattle.faults.specs.declared.fault.Fault.{Fault}
 use Rattle.faults.specs.declared.fault.Ground.TheVariants.{Parts}
 use Rattle.faults.specs.Refusals.{at, is_none}
-use Rattle.ends.specs.Codes.{bit_code, bit_of, unlike}
-use Rattle.growths.specs.Codes.{code_join, decodes}
+use Rattle.ends.specs.Codes.{bit_code}
 use Rattle.model.specs.declared.Node.{Node}
 use Rattle.model.specs.Selections.{Selection}
 use Rattle.readers.specs.Selections.{bit_at}
@@ -14,13 +13,13 @@ use Rattle.sources.specs.Grounds.{mount_fault}
 use Rattle.sources.specs.Layers.{mounted}
 use Rattle.trees.specs.Mixed.{codes, differs, mixed, level, blocks, mixed_blocks}
 use Rattle.plans.specs.declared.header.Header.{Header}
-use Rattle.plans.specs.Plain.{Plain, Call, empty_plan, with_line, draw, erase, strap, join, told, after, used_of, count_told, count_line}
+use Rattle.plans.specs.Plain.{Plain, empty_plan, with_line, draw, erase, told, after, used_of, count_told, count_line}
 use Rattle.plans.specs.Holding.{Holds}
 use Rattle.settled.proofs.Steps.{Readable, codes_of}
 use Rattle.settled.specs.Examples.{MountSettles}
 use Rattle.settled.specs.Readings.{ReadsFour}
 use Rattle.settled.specs.Samples.{single, differing, alternating, halved}
-use Rattle.settled.specs.Lines.{drawing, new_plan, one_drawn, two_drawn}
+use Rattle.settled.specs.Lines.{drawing, new_plan, one_drawn, two_drawn, still_two, erased, strapping, joining, strapped, joined}
 
 pub begun : (h : Header) (nodes : List Node) → length nodes ≡ 3 → Holds h nodes (empty_plan (0 ∷ 1 ∷ []) (length nodes)) → Holds h nodes new_plan
 begun h nodes e o = subst (λ (k : ℕ). Holds h nodes (empty_plan (0 ∷ 1 ∷ []) k)) e o
@@ -43,15 +42,9 @@ pub third_refused : told two_drawn (drawing 2 halved) ≡ Some (at Parts 3)
 unfolding differs mixed level blocks mixed_blocks
 third_refused = refl
 
-abbrev pub still_two : Plain
-still_two = after two_drawn (drawing 2 halved)
-
 pub erase_goes : told still_two (erase 0 3 60) ≡ None
 unfolding differs mixed level blocks mixed_blocks
 erase_goes = refl
-
-abbrev pub erased : Plain
-erased = after still_two (erase 0 3 60)
 
 pub third_goes : told erased (drawing 2 halved) ≡ None
 unfolding differs mixed level blocks mixed_blocks
@@ -63,18 +56,9 @@ two_used = refl
 
 -- a strap of line 0, and a join of it with itself
 
-abbrev pub strapping : ℕ → ℕ → Call
-strapping = strap 0 0 true 2
-
-abbrev pub joining : ℕ → ℕ → Call
-joining = join (decodes bit_of) (code_join bit_of bit_code unlike) 0 0 3
-
 pub strap_goes : told two_drawn (strapping 3 60) ≡ None
 unfolding differs mixed level blocks mixed_blocks
 strap_goes = refl
-
-abbrev pub strapped : Plain
-strapped = after two_drawn (strapping 3 60)
 
 pub strap_uses : used_of strapped ≡ 3
 unfolding differs mixed level blocks mixed_blocks
@@ -91,9 +75,6 @@ strap_ends = refl
 pub join_goes : told strapped (joining 3 60) ≡ None
 unfolding differs mixed level blocks mixed_blocks
 join_goes = refl
-
-abbrev pub joined : Plain
-joined = after strapped (joining 3 60)
 
 pub count_goes : count_told joined 3 3 60 ≡ None
 unfolding differs mixed level blocks mixed_blocks

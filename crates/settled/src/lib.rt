@@ -1,6 +1,7 @@
 #![tactic(auto)]
 // Settled examples on the calls: what each of them tells, side by side in specs/Examples.
 mod four_reads;
+pub mod laws;
 pub mod maps;
 mod memory;
 pub mod mount;

@@ -1,6 +1,6 @@
 use Rattle.std.proofs.Common.{Ok, ap, ◌∙◌}
-use Rattle.settled.specs.Lines.{two_drawn}
-use Rattle.settled.proofs.Chains.{strapping, joining, strapped, joined, strap_goes, strap_uses, strap_read, strap_ends, join_goes, count_goes, none_counted}
+use Rattle.settled.specs.Lines.{two_drawn, strapping, joining, strapped, joined}
+use Rattle.settled.proofs.Chains.{strap_goes, strap_uses, strap_read, strap_ends, join_goes, count_goes, none_counted}
 use Rattle.settled.proofs.Steps.{at_lengths, went, each_read, count_told_is}
 use Rattle.settled.proofs.strap_and_join.strap_and_join_settle.Goals as goal
 

@@ -1,7 +1,7 @@
 use Rattle.std.proofs.Common.{◌∙◌}
 use Rattle.plans.specs.Plain.{erase}
-use Rattle.settled.specs.Lines.{two_drawn}
-use Rattle.settled.proofs.Chains.{still_two, erased, three_used, third_refused, erase_goes, third_goes, two_used}
+use Rattle.settled.specs.Lines.{two_drawn, still_two, erased}
+use Rattle.settled.proofs.Chains.{three_used, third_refused, erase_goes, third_goes, two_used}
 use Rattle.settled.proofs.Steps.{at_lengths, went, was_refused}
 use Rattle.settled.proofs.third_line.third_line_settles.Goals as goal
 
