@@ -21,6 +21,8 @@ mod layout;
 #[cfg(test)]
 mod lending;
 #[cfg(test)]
+mod long_rows;
+#[cfg(test)]
 mod makings;
 #[cfg(test)]
 mod noise;
@@ -30,8 +32,6 @@ mod orders;
 mod parts;
 #[cfg(test)]
 mod plain;
-#[cfg(test)]
-mod rows;
 #[cfg(test)]
 mod running;
 #[cfg(test)]

@@ -5,11 +5,11 @@ mod bench;
 #[cfg(test)]
 mod joins;
 #[cfg(test)]
+mod orders;
+#[cfg(test)]
 mod parts;
 #[cfg(test)]
 mod refusals;
-#[cfg(test)]
-mod rows;
 #[cfg(test)]
 mod steps;
 #[cfg(test)]
