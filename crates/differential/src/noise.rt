@@ -8,6 +8,7 @@ use trees::tree::{Half, Record};
 // Nodes that no plan has made, some of them in circles.
 pub fn noise_nodes(heap: Global, chance: &mut Chance, len: usize) -> Result<Vec<Node>, AllocError> {
     let mut nodes = Vec::new(heap);
+    // Counted: each turn draws by chance and may fail, and no index is used.
     for _ in 0..len {
         let next = u16::try_from(chance.place_below(len)).unwrap_or(u16::MAX);
         let code = u16::from(chance.byte_below(128));

@@ -38,6 +38,8 @@ impl Header {
     }
 
     // A root for a built tree, beside the lines of the plan. None where no slot is left.
+    // The lent tables are parameters, as the calls of a plan take them: of a struct the contract would have to say that its
+    // references stay the same.
     fn grow_tree(
         &self,
         tree: Tree,

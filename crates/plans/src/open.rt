@@ -4,5 +4,6 @@ use crate::plan::Plan;
 pub struct Open;
 
 // A plan that can be drawn on.
-// By a rule of the project each call is lent just the tables that it uses, so that nodes, records and work are parameters.
+// Each call is lent just the tables that it uses, a form that the project asks for, so that nodes, records and work are
+// parameters.
 pub type OpenPlan = Plan<Open>;

@@ -18,7 +18,7 @@ pub fn told_by<S: Source>(source: &S, block: Block) -> Asked {
     Asked { block, told }
 }
 
-// What is true of the addresses of an answer and one more.
+// What is true of the addresses of an answer and one more. It is what the test reckons, and no conversion.
 fn and_one_more(told: Answer<u16>, code: u16) -> Answer<u16> {
     match told {
         Answer::All(held) if held != code => Answer::Mixed,
