@@ -33,10 +33,10 @@ impl FixedBits {
 
 impl Record {
     // The half that holds the addresses where the next pin is high, or low.
-    fn side(self, high: bool) -> Half
-        ensures { result ≡ side self high }
+    fn side(&self, high: bool) -> &Half
+        ensures { result.now ≡ side self.now high }
     {
-        if high { self.high } else { self.low }
+        if high { &self.high } else { &self.low }
     }
 }
 
@@ -64,20 +64,20 @@ fn code_below(table: &[Record], half: Half, left: u32, address: u32) -> u16
             let Some(below) = left.checked_sub(1) else {
                 return 0;
             };
-            code_below(table, record.side(bit(address, below)), below, address)
+            code_below(table, *record.side(bit(address, below)), below, address)
         }
     }
 }
 
 // The one code that is left in the block that `half` stands for, of which the last `left` pins are open.
-fn code_left_below(table: &[Record], half: Half, left: u32, bits: FixedBits) -> Option<u16>
+fn code_left_below(table: &[Record], half: &Half, left: u32, bits: FixedBits) -> Option<u16>
     requires { left ≤ 20 }
-    ensures { (n : ℕ) (c : ℕ → ℕ) (j p : ℕ) (f : ℕ → ℕ) → Stands n c table.now j p left half f → Left left f bits.mask bits.value result }
+    ensures { (n : ℕ) (c : ℕ → ℕ) (j p : ℕ) (f : ℕ → ℕ) → Stands n c table.now j p left half.now f → Left left f bits.mask bits.value result }
 {
     match half {
-        Half::Code(code) => Some(code),
+        Half::Code(code) => Some(*code),
         Half::Split(i) => {
-            let record = *table.get(i)?;
+            let record = table.get(*i)?;
             let below = left.checked_sub(1)?;
             // The block is mixed: with none of its pins fixed there is no need to walk it.
             if bits.mask % (1 << left) == 0 {
@@ -86,8 +86,8 @@ fn code_left_below(table: &[Record], half: Half, left: u32, bits: FixedBits) -> 
             if let Some(high) = bits.at(below) {
                 return code_left_below(table, record.side(high), below, bits);
             }
-            let low = code_left_below(table, record.low, below, bits)?;
-            let high = code_left_below(table, record.high, below, bits)?;
+            let low = code_left_below(table, &record.low, below, bits)?;
+            let high = code_left_below(table, &record.high, below, bits)?;
             agreed(low, high)
         }
     }
@@ -112,6 +112,6 @@ impl Tree {
         if self.pins > MOST_PINS {
             return None;
         }
-        code_left_below(table, self.root, self.pins, bits)
+        code_left_below(table, &self.root, self.pins, bits)
     }
 }

@@ -16,5 +16,5 @@ returns-in_default-checked_sub t c =
 
 pub returns-in-Some-checked_sub : goal.returns-in-Some-checked_sub
 returns-in-Some-checked_sub t c =
-    code_at_half c.args.table.now c.args.half c.args.left c.args.address c.in-Split.i c.code_below.result c.in-Split.is c.in-Some.record.now c.in-Some-checked_sub.below c.bit.result c.side.result
+    code_at_half c.args.table.now c.args.half c.args.left c.args.address c.in-Split.i c.code_below.result c.in-Split.is c.in-Some.record.now c.in-Some-checked_sub.below c.bit.result c.side.result.now
     (c.in-Some.ensures.lookup.3.1 blank) c.in-Some-checked_sub.ensures c.bit.ensures c.side.ensures c.code_below.ensures
