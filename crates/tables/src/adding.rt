@@ -9,6 +9,28 @@ use crate::marking::mark_roots;
 use crate::reading::step;
 use model::{Branch, Node};
 
+// Cuts marks and index out of the work, marks what is reached from the held lines, and makes the index over it.
+// With more nodes than any plan has, or work too short for both, there are no marks, and all the work is the index.
+// Apart from `Growing::prepare`, for callers that only read their nodes.
+pub fn prepare<'a>(
+    nodes: &[Node],
+    work: &'a mut [u32],
+    pins: u8,
+    lines: &[Line],
+) -> (&'a mut [u32], &'a mut [u32])
+    ensures { Prepares pins nodes.now work.old lines.now result.0.now result.1.now }
+{
+    let len = nodes.len();
+    if len > MOST_NODES || work.len() < 3 * len + 2 {
+        return work.split_at_mut(0);
+    }
+    let (marks, rest) = work.split_at_mut(len);
+    let (index, _) = rest.split_at_mut(2 * len + 2);
+    mark_roots(nodes, marks, pins, lines);
+    index_marked(nodes, marks, index);
+    (marks, index)
+}
+
 // A node table that grows, with marks and an index over its live nodes. All three are memory lent by the caller,
 // so nodes go by number, a mark is 0 or 1, and an entry of the index is 0 or a slot's number and 1.
 // A growth answers None where no slot is left. So it does where the tables were not made ready, of which nothing is promised:
@@ -22,8 +44,7 @@ pub struct Growing<'a> {
 }
 
 impl<'a> Growing<'a> {
-    // Cuts marks and index out of the work, marks what is reached from the held lines, and makes the index over it.
-    // With more nodes than any plan has, or work too short for both, there are no marks and no index.
+    // The table made ready to grow beside the held lines, as `prepare` makes marks and index.
     pub fn prepare(
         nodes: &'a mut [Node],
         work: &'a mut [u32],
@@ -35,20 +56,7 @@ impl<'a> Growing<'a> {
         ensures pins { result.pins ≡ pins }
         ensures prepared { Prepares pins nodes.old work.old lines.now result.marks.now result.index.now }
     {
-        let len = nodes.len();
-        if len > MOST_NODES || work.len() < 3 * len + 2 {
-            let (marks, index) = work.split_at_mut(0);
-            return Growing {
-                nodes,
-                marks,
-                index,
-                pins,
-            };
-        }
-        let (marks, rest) = work.split_at_mut(len);
-        let (index, _) = rest.split_at_mut(2 * len + 2);
-        mark_roots(nodes, marks, pins, lines);
-        index_marked(nodes, marks, index);
+        let (marks, index) = prepare(nodes, work, pins, lines);
         Growing {
             nodes,
             marks,
