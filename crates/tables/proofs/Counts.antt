@@ -1,9 +1,9 @@
 -- Counting entries that are not 0.
-use Rattle.std.proofs.Common.{◌≡◌, ℕ, zero, suc, ◌+◌, ◌<◌, ◌≤◌, Bool, cond, not, eqb, ltb, List, [], ◌∷◌, length, get_or, take, set, sym, refl, ap, ◌∙◌, add-one, arith, length-take}
-use Rattle.std.specs.List.{count_by}
-use Rattle.std.proofs.lemmas.Bool.{ltb-true, lt-ltb, ne_eqb}
+use Rattle.std.proofs.Common.{◌≡◌, ℕ, zero, suc, ◌+◌, ◌<◌, ◌≤◌, Bool, cond, ltb, List, [], ◌∷◌, length, get_or, take, set, sym, refl, ap, ◌∙◌, subst, add-one, arith, length-take}
+use Rattle.std.specs.List.{sum_by}
+use Rattle.std.proofs.lemmas.Bool.{ltb-true, lt-ltb}
 use Rattle.std.proofs.lemmas.List.{take_all}
-use Rattle.std.proofs.lemmas.List.Recursion.{is_count_by}
+use Rattle.std.proofs.lemmas.List.Sums.{sum_by-cons}
 use Rattle.model.specs.Lists.{In, Apart}
 use Rattle.model.proofs.Lists.{pigeonhole}
 use Rattle.model.proofs.Marks.{marked, from_marked, in_marked, apart_marked, length_marked}
@@ -17,7 +17,7 @@ filled_set [] p v h e = absurd (omega arith)
 filled_set (y ∷ ys) zero v h e = rw e (rw (add-one v) (omega arith))
 filled_set (y ∷ ys) (suc p) v h e = ap (λ z. nonzero y + z) (filled_set ys p v (omega arith) e) ∙ omega arith
 
-nonzero_le : (a : ℕ) → nonzero a ≤ 1
+pub nonzero_le : (a : ℕ) → nonzero a ≤ 1
 nonzero_le zero = omega arith
 nonzero_le (suc a) = omega arith
 
@@ -25,12 +25,9 @@ pub nonzero_is : (a : ℕ) → (a ≡ 0 → ⊥) → nonzero a ≡ 1
 nonzero_is zero h = absurd (h refl)
 nonzero_is (suc a) h = refl
 
-pub filled_counted : (xs : List ℕ) → filled xs ≡ count_by (λ x. not (eqb x 0)) xs
-filled_counted = is_count_by filled (λ x. not (eqb x 0)) refl (λ x xs. one x (filled xs))
-  where
-    one : (x f : ℕ) → nonzero x + f ≡ cond (not (eqb x 0)) (1 + f) f
-    one zero f = omega arith
-    one (suc x) f = ap (λ b. cond (not b) (1 + f) f) (sym (ne_eqb (suc x) 0 (omega arith)))
+pub filled_summed : (xs : List ℕ) → filled xs ≡ sum_by nonzero xs
+filled_summed [] = refl
+filled_summed (x ∷ xs) = ap (λ s. nonzero x + s) (filled_summed xs) ∙ sym (sum_by-cons nonzero x xs)
 
 pub filled_le : (xs : List ℕ) → filled xs ≤ length xs
 filled_le [] = omega arith
@@ -91,3 +88,7 @@ counts_filled marks us apart is =
     let c = filled_marked marks (length marks) (omega arith) in
     let d : filled (take (length marks) marks) ≡ filled marks = ap filled (take_all (length marks) marks (omega arith)) in
     omega arith
+
+-- and so is a number that is as large
+pub counts_told : (marks : List ℕ) (r : ℕ) → r ≡ filled marks → Counts marks r
+counts_told marks r e = subst (Counts marks) (sym e) (counts_filled marks)

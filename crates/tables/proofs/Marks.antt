@@ -189,3 +189,7 @@ lines_done n nodes us ls k marks l dg f h = marked_from n nodes us (held ls) mar
 pub roots_marked : (n : ℕ) (nodes : List Node) (rs : List Branch) (marks : List ℕ) → MarkedFrom n nodes rs marks → (b : Branch) → In b rs → From (Live marks) (listed nodes) 0 b
 roots_marked n nodes rs marks m (end c) p = tt
 roots_marked n nodes rs marks m (node i) p = ((m.exact i).1 (node i, p, ([], refl)), omega arith)
+
+-- the same of the table alone
+pub passed_over : (n : ℕ) (nodes : List Node) (m : List ℕ) (d i : ℕ) (b : Branch) → b ≡ node i → ((i < length m) × (get_or m i 0 ≡ 0) → ⊥) → Marks n nodes m d b m
+passed_over n nodes m d i b is old = mark_old n nodes m d i (listed nodes i) b is refl old

@@ -1,5 +1,5 @@
 ghost use Rattle.std.specs.Prelude.{◌≡◌, ℕ, ◌<◌, ◌≤◌, List, length, slice_index, Decides};
-ghost use Rattle.tables.specs.Indexes.{filled};
+ghost use Rattle.tables.specs.Indexes.{nonzero, filled};
 ghost use Rattle.tables.specs.Markings.{Marks, MarksRoots, Counts};
 
 use crate::line::Line;
@@ -21,6 +21,7 @@ pub(crate) fn is_unmarked(marks: &[u32], i: usize) -> bool
 }
 
 // Marks what is reached from a branch whose places are `place` and later, but is not marked yet.
+#[tactic(auto, using(crate::proofs::Marks::passed_over))]
 fn mark_from(nodes: &[Node], marks: &mut [u32], pins: u8, place: u8, branch: Branch)
     ensures { Marks pins nodes.now marks.old place branch marks.new }
 {
@@ -49,10 +50,26 @@ pub fn mark_roots(nodes: &[Node], marks: &mut [u32], pins: u8, lines: &[Line])
     }
 }
 
+// How many entries are not 0: a sum with no branch, which the compiler turns into wide additions.
+#[tactic(auto, using(crate::proofs::Counts::filled_summed))]
+fn count_filled(entries: &[u32]) -> usize
+    ensures { result ≡ filled entries.now }
+{
+    entries
+        .iter()
+        .map(
+            |entry: &u32| -> usize
+                ensures { result ≡ nonzero entry.now }
+            { usize::from(*entry != 0) },
+        )
+        .sum()
+}
+
 // How many nodes are marked.
+#[tactic(auto, using(crate::proofs::Counts::counts_told))]
 pub fn count_marks(marks: &[u32]) -> usize
     ensures filled { result ≡ filled marks.now }
     ensures counts { Counts marks.now result }
 {
-    marks.iter().filter(|mark| **mark != 0).count()
+    count_filled(marks)
 }

@@ -1,13 +1,6 @@
-use Rattle.std.proofs.Common.{refl, arith, rules, length-set}
-use Rattle.std.proofs.lemmas.Bool.Decides.{not_from_Decides}
-use Rattle.model.specs.Diagrams.{listed}
-use Rattle.tables.proofs.Marks.{mark_old, mark_astray, mark_node}
+use Rattle.std.proofs.Common.{arith, rules, length-set}
+use Rattle.tables.proofs.Marks.{mark_astray, mark_node}
 use Rattle.tables.proofs.marking.+mark_from.Goals as goal
-
-pub returns-then-not-is_unmarked : goal.returns-then-not-is_unmarked
-returns-then-not-is_unmarked t c =
-    mark_old c.args.pins c.args.nodes.now c.args.marks.now c.args.place c.in-Node.i (listed c.args.nodes.now c.in-Node.i) c.args.branch c.in-Node.is refl
-    (not_from_Decides _ c.is_unmarked.ensures c.if-not-is_unmarked.true)
 
 pub returns-then-not-contains : goal.returns-then-not-contains
 returns-then-not-contains t c =
