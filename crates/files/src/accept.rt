@@ -29,5 +29,9 @@ pub fn accepted_or_blank(bytes: &[u8], format: Format) -> &[u8]
     ensures value { result.now ≡ accepted format bytes.now }
     ensures good { fault format result.now ≡ None }
 {
-    accept(bytes, format).unwrap_or(blank_file(format))
+    // By `match`, so that the check alone proves what is handed back of accepted bytes.
+    match accept(bytes, format) {
+        Ok(bytes) => bytes,
+        Err(_) => blank_file(format),
+    }
 }

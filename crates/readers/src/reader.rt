@@ -3,6 +3,7 @@ ghost use Rattle.readers.specs.Entries.{switch_of};
 ghost use Rattle.files.specs.Formats.{count_of, pins_of};
 ghost use Rattle.files.specs.Theorems.{Accepted, Refused};
 ghost use Rattle.files.specs.Verdict.{accepted};
+ghost use Rattle.sources.specs.Mapping.{Mapped};
 ghost use Rattle.readers.specs.Selections.{below_top};
 
 use crate::entry::Switch;
@@ -69,6 +70,17 @@ impl<'a, K: Switched> MapFile<'a, K> {
     }
 }
 
+// An answer in codes, in the ends that they stand for.
+fn in_ends<K: Kind>(answer: Answer<u8>) -> Answer<K::Of>
+    ensures { Mapped (λ c e. e ≡ K.end c) answer result }
+{
+    answer.map(
+        |code: u8| -> K::Of
+            ensures { result ≡ K.end code }
+        { K::end(code) },
+    )
+}
+
 impl<'a, K: Kind> Source for MapFile<'a, K> {
     type Of = K::Of;
 
@@ -85,10 +97,6 @@ impl<'a, K: Kind> Source for MapFile<'a, K> {
     }
 
     fn ask(&self, block: Block) -> Answer<K::Of> {
-        self.ask_codes(block).map(
-            |code: u8| -> K::Of
-                ensures { result ≡ K.end code }
-            { K::end(code) },
-        )
+        in_ends::<K>(self.ask_codes(block))
     }
 }
